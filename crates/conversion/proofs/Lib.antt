@@ -1,0 +1,5 @@
+pub mod Numbers
+pub mod Searches
+pub mod Sums
+pub mod Judging
+pub mod Rows
