@@ -1,0 +1,6 @@
+// Lines of a bench script, read.
+pub mod lines;
+pub mod names;
+#[cfg(test)]
+mod tests;
+pub mod words;
