@@ -66,7 +66,7 @@ keyOf es = record { counts = countsOf es; arrays = hasArray es }
 
 -- arrays may be updated after binding (1), and only part of them be bound (4)
 abbrev pub bindingFlags : Bool → LayoutEntry → ℕ
-bindingFlags partial e = cond (isArray e) (cond partial 5 1) 0
+bindingFlags partial e = cond (isArray e) (cond partial (1 + 4) 1) 0
 
 -- binding i of the device layout is entry i; no key counts type 1, which stands for an external texture
 abbrev pub deviceBinding : Bool → LayoutEntry → DeviceBinding
@@ -90,7 +90,7 @@ layoutFlags key = cond (key .arrays) 2 0
 
 -- the pool flags: sets can be freed (1), and updated after binding where there is an array (2)
 abbrev pub poolFlags : BucketKey → ℕ
-poolFlags key = cond (key .arrays) 3 1
+poolFlags key = cond (key .arrays) (1 + 2) 1
 
 -- why entry i is refused: its binding number is not greater than the one before
 abbrev pub outOfOrder : List LayoutEntry → ℕ → Bool
@@ -109,16 +109,19 @@ external es i = isExternal (getD es i noEntry .kind)
 abbrev pub overfull : List LayoutEntry → ℕ → Bool
 overfull es i = ltb 4294967295 (sumBy entryCount (take (suc i) es))
 
--- each refusal, with the first entry that it applies to
+-- refusal 1: there are more than 32 entries
 abbrev pub tooMany : List LayoutEntry → Option LayoutFault
 tooMany es = cond (ltb 32 (length es)) (Some fault.TooManyEntries) None
 
+-- refusal 2, with the first entry that is out of order
 abbrev pub misordered : List LayoutEntry → Option LayoutFault
 misordered es = mapped fault.BindingOrder (first (outOfOrder es) (length es))
 
+-- refusal 3, with the first external texture
 abbrev pub withExternal : List LayoutEntry → Option LayoutFault
 withExternal es = mapped fault.ExternalTexture (first (external es) (length es))
 
+-- refusal 4, with the first entry at which the total passes 32 bits
 abbrev pub overflowing : List LayoutEntry → Option LayoutFault
 overflowing es = mapped fault.TooManyDescriptors (first (overfull es) (length es))
 
@@ -131,7 +134,7 @@ abbrev pub unlessRefused : {F X : Type 0} → Option F → X → Result X F
 unlessRefused None x = Ok x
 unlessRefused (Some f) x = Err f
 
--- what a list of entries is answered: the key of its bucket, or the first refusal
+-- what is answered: the key of the layout's bucket, or the first refusal
 abbrev pub layoutAnswer : List LayoutEntry → Result BucketKey LayoutFault
 layoutAnswer es = unlessRefused (layoutRefusal es) (keyOf es)
 

@@ -16,7 +16,7 @@ use Rattle.std.proofs.shelf.Bits.{one-shl}
 use Rattle.std.proofs.shelf.Lists.{drop-more, at-drop-all, take-more, take-all, append-assoc}
 use Rattle.std.proofs.shelf.Maps.{nth-getD, nth-past}
 use Rattle.std.proofs.shelf.Ways.{tells, leb-tells}
-use Rattle.script.specs.Words.{isBlank, span, closing, words, wordsFrom, valueFrom, decimalOf}
+use Rattle.script.specs.Words.{isBlank, span, closing, words, wordsFrom, Word, valueFrom, decimalOf}
 use Rattle.script.specs.declared.words.Span.{Span}
 use Rattle.script.specs.Lines.{textOf}
 use Rattle.script.specs.Names.{placeIn, stageNames, stageNamed}
@@ -42,10 +42,19 @@ nth-next : {X : Type 0} (x : X) (xs : List X) (n : ℕ) → (n ≡ 0 → ⊥) �
 nth-next x xs zero h = absurd (h refl)
 nth-next x xs (suc n) h = let e : suc n - 1 ≡ n = omega arith in rw e
 
--- The search for word n of a text, at position i: it is the word that many places on in the rest, and the open word starts at or before i.
+-- what stands before position i: a word that is open since s, or a blank or the start
+pub record Open (t : List ℕ) (s i : ℕ) : Type 0 where
+  pub some : s < i
+  pub solid : (k : ℕ) → s ≤ k → k < i → isBlank (getD t k 0) ≡ false
+  pub before : (k : ℕ) → k + 1 ≡ s → isBlank (getD t k 0) ≡ true
+
+abbrev Shut : List ℕ → ℕ → Type 0
+Shut t i = (k : ℕ) → k + 1 ≡ i → isBlank (getD t k 0) ≡ true
+
+-- The search for word n of a text, at position i: it is the word that many places on in the rest.
 module _ (t : List ℕ) (n : ℕ) where
   abbrev pub Seen : Option ℕ → ℕ → ℕ → Type 0
-  Seen o i left = (nth (words t) n ≡ nth (wordsFrom o i (drop i t)) left) × Cases o (Unit {0}) (λ s. s ≤ i)
+  Seen o i left = (nth (words t) n ≡ nth (wordsFrom o i (drop i t)) left) × Cases o (Shut t i) (λ s. Open t s i)
 
   as-known : (o p : Option ℕ) (i left : ℕ) → o ≡ p → Seen o i left → Seen p i left
   as-known o p i left e h = subst (λ q. Seen q i left) e h
@@ -54,34 +63,54 @@ module _ (t : List ℕ) (n : ℕ) where
   pub moved : (o p : Option ℕ) (i l m : ℕ) → p ≡ o → m ≡ l → Seen o i l → Seen p i m
   moved o p i l m e f h = as-known o p i m (sym e) (subst (λ q. Seen o i q) (sym f) h)
 
-  opened : (o : Option ℕ) (i : ℕ) → Cases o (Unit {0}) (λ s. s ≤ i) → valueOr o i ≤ i + 1
-  opened None i h = omega arith
-  opened (Some s) i h = omega (arith, h)
+  -- one byte more of a word, its first or a further one
+  here : (i k : ℕ) → isBlank (getD t i 0) ≡ false → i ≤ k → k < i + 1 → isBlank (getD t k 0) ≡ false
+  here i k b l h = let e : k ≡ i = omega arith in rw e b
+
+  further : (s i k : ℕ) → isBlank (getD t i 0) ≡ false → Open t s i → s ≤ k → k < i + 1 → isBlank (getD t k 0) ≡ false
+  further s i k b p l h =
+      elim (leb-tells i k) [
+        | inl m ↦ let le = m .1 in here i k b le h
+        | inr m ↦ p .solid k l (m .1)
+      ]
+
+  opened : (o : Option ℕ) (i : ℕ) → isBlank (getD t i 0) ≡ false → Cases o (Shut t i) (λ s. Open t s i) → Open t (valueOr o i) (i + 1)
+  opened None i b h = record { some = omega arith; solid = λ k. here i k b; before = h }
+  opened (Some s) i b h = record { some = omega (arith, h .some); solid = λ k. further s i k b h; before = h .before }
+
+  shut : (i : ℕ) → isBlank (getD t i 0) ≡ true → Shut t (i + 1)
+  shut i b k e = let q : k ≡ i = omega arith in rw q b
 
   pub at-byte : (o : Option ℕ) (i left : ℕ) → i < length t → isBlank (getD t i 0) ≡ false → Seen o i left → Seen (Some (valueOr o i)) (i + 1) left
-  at-byte o i left h b e = (e .0 ∙ ap (λ q. nth q left) (word-byte t o i h b), opened o i (e .1))
+  at-byte o i left h b e = (e .0 ∙ ap (λ q. nth q left) (word-byte t o i h b), opened o i b (e .1))
 
   pub at-blank : (o : Option ℕ) (i left : ℕ) → i < length t → isBlank (getD t i 0) ≡ true → o ≡ None → Seen o i left → Seen o (i + 1) left
   at-blank o i left h b p e =
       let f = as-known o None i left p e in
-      as-known None o (i + 1) left (sym p) (f .0 ∙ ap (λ q. nth q left) (word-blank t None i h b), tt)
+      as-known None o (i + 1) left (sym p) (f .0 ∙ ap (λ q. nth q left) (word-blank t None i h b), shut i b)
 
   pub at-word : (o : Option ℕ) (s i left : ℕ) → i < length t → isBlank (getD t i 0) ≡ true → o ≡ Some s → (left ≡ 0 → ⊥) → Seen o i left → Seen None (i + 1) (left - 1)
   at-word o s i left h b p z e =
       let f = as-known o (Some s) i left p e in
-      (f .0 ∙ (ap (λ q. nth q left) (word-blank t (Some s) i h b) ∙ nth-next (span s i) (wordsFrom None (i + 1) (drop (i + 1) t)) left z), tt)
+      (f .0 ∙ (ap (λ q. nth q left) (word-blank t (Some s) i h b) ∙ nth-next (span s i) (wordsFrom None (i + 1) (drop (i + 1) t)) left z), shut i b)
 
-  -- the word that was looked for, before a blank or the end
-  pub found : (o : Option ℕ) (s i left : ℕ) → i < length t → isBlank (getD t i 0) ≡ true → o ≡ Some s → left ≡ 0 → Seen o i left → (Some (span s i) ≡ nth (words t) n) × (s ≤ i)
+  closed : (s i : ℕ) → i ≤ length t → (i < length t → isBlank (getD t i 0) ≡ true) → Open t s i → Word t (span s i)
+  closed s i l b p = record { some = p .some; inside = l; solid = p .solid; before = p .before; after = b }
+
+  -- the word that was looked for, before a blank or at the end
+  pub found : (o : Option ℕ) (s i left : ℕ) → i < length t → isBlank (getD t i 0) ≡ true → o ≡ Some s → left ≡ 0 → Seen o i left → (Some (span s i) ≡ nth (words t) n) × Word t (span s i)
   found o s i left h b p z e =
-      let f = as-known o (Some s) i left p e in
-      (sym (f .0 ∙ (ap (λ q. nth q left) (word-blank t (Some s) i h b) ∙ ap (nth (span s i ∷ wordsFrom None (i + 1) (drop (i + 1) t))) z)), f .1)
+      let f = as-known o (Some s) i left p e in (
+        sym (f .0 ∙ (ap (λ q. nth q left) (word-blank t (Some s) i h b) ∙ ap (nth (span s i ∷ wordsFrom None (i + 1) (drop (i + 1) t))) z)),
+        closed s i (omega arith) (λ l. b) (f .1),
+      )
 
-  pub found-last : (o : Option ℕ) (s i left : ℕ) → i ≡ length t → o ≡ Some s → left ≡ 0 → Seen o i left → (Some (span s (length t)) ≡ nth (words t) n) × (s ≤ length t)
+  pub found-last : (o : Option ℕ) (s i left : ℕ) → i ≡ length t → o ≡ Some s → left ≡ 0 → Seen o i left → (Some (span s (length t)) ≡ nth (words t) n) × Word t (span s (length t))
   found-last o s i left h p z e =
-      let f = as-known o (Some s) i left p e in
-      let l : s ≤ length t = omega (arith, f .1) in
-      (ap (λ k. Some (span s k)) (sym h) ∙ sym (f .0 ∙ (ap (λ q. nth q left) (word-end t (Some s) i (omega arith)) ∙ ap (nth (span s i ∷ [])) z)), l)
+      let f = as-known o (Some s) i left p e in (
+        ap (λ k. Some (span s k)) (sym h) ∙ sym (f .0 ∙ (ap (λ q. nth q left) (word-end t (Some s) i (omega arith)) ∙ ap (nth (span s i ∷ [])) z)),
+        subst (λ k. Word t (span s k)) h (closed s i (omega arith) (λ l. absurd (omega arith)) (f .1)),
+      )
 
   -- and where there is none
   pub missing : (o : Option ℕ) (s i left : ℕ) → length t ≤ i → o ≡ Some s → (left ≡ 0 → ⊥) → Seen o i left → None ≡ nth (words t) n

@@ -1,9 +1,10 @@
 -- The words of a text, and the numbers that they write. Assumes nothing.
-use Prim.Native.Nat.{ℕ, _+_, _-_, _*_, _≤_}
-use mathlib.Core.Bool.{Bool, cond, _||_, _&&_}
+use Prim.Native.Nat.{ℕ, _+_, _-_, _*_, _<_, _≤_}
+use mathlib.Core.Path.{_≡_}
+use mathlib.Core.Bool.{Bool, true, false, cond, _||_, _&&_}
 use mathlib.Core.List.{List, [], _∷_}
 use lib.Dec.{eqb, ltb}
-use lib.ListN.{length, take, drop}
+use lib.ListN.{length, getD, take, drop}
 use Rattle.std.specs.Options.{valueOr}
 use Rattle.std.specs.shelf.Text.{allDigits}
 use Rattle.std.specs.declared.option.Option.{Option}
@@ -36,9 +37,13 @@ words t = wordsFrom None 0 t
 abbrev pub spelled : List ℕ → Span → List ℕ
 spelled t s = take (s .end - s .start) (drop (s .start) t)
 
--- a part that lies in the text
-abbrev pub Within : List ℕ → Span → Type 0
-Within t s = (s .start ≤ s .end) × (s .end ≤ length t)
+-- A word of a text: a run of bytes that are no blanks, with a blank or the text's end on either side.
+pub record Word (t : List ℕ) (s : Span) : Type 0 where
+  pub some : s .start < s .end
+  pub inside : s .end ≤ length t
+  pub solid : (k : ℕ) → s .start ≤ k → k < s .end → isBlank (getD t k 0) ≡ false
+  pub before : (k : ℕ) → k + 1 ≡ s .start → isBlank (getD t k 0) ≡ true
+  pub after : s .end < length t → isBlank (getD t (s .end) 0) ≡ true
 
 -- the number that digits write after those that write v
 abbrev pub valueFrom : ℕ → List ℕ → ℕ

@@ -42,12 +42,15 @@ pub struct Unreadable {
     pub expected: Expected,
 }
 
+// What begins a comment.
+const COMMENT: u8 = b'#';
+
 // The text of a line ends where a comment begins.
 fn text_of(line: &[u8]) -> &[u8]
     ensures { λ r. ⌜ now r ≡ textOf (now (line .entry)) ⌝ }
 {
     for (i, byte) in line.iter().enumerate() {
-        if *byte == b'#' {
+        if *byte == COMMENT {
             return &line[0..i];
         }
     }

@@ -1,10 +1,8 @@
 // The words of a text, and the numbers that they write.
 ghost use mathlib.Core.Path.{_≡_};
-ghost use Prim.Native.Nat.{_-_, _≤_};
-ghost use lib.ListN.{length, take, drop};
 ghost use Rattle.std.specs.Options.{Cases};
 ghost use Rattle.std.specs.shelf.Maps.{nth};
-ghost use Rattle.script.specs.Words.{isBlank, words, spelled, Within, decimalOf};
+ghost use Rattle.script.specs.Words.{isBlank, words, spelled, Word, decimalOf};
 
 const MAX_NUMBER: u64 = 0xffff_ffff;
 
@@ -23,8 +21,8 @@ fn is_blank(byte: u8) -> bool
 
 // Word `index` of a text, counted from 0.
 pub fn word_at(text: &[u8], index: usize) -> Option<Span>
-    ensures word { λ r. ⌜ r ≡ nth (words (now (text .entry))) index ⌝ }
-    ensures within { λ r. ⌜ Cases r (Unit {0}) (Within (now (text .entry))) ⌝ }
+    ensures place { λ r. ⌜ r ≡ nth (words (now (text .entry))) index ⌝ }
+    ensures word { λ r. ⌜ Cases r (Unit {0}) (Word (now (text .entry))) ⌝ }
 {
     let mut start: Option<usize> = None;
     let mut left = index;
@@ -55,9 +53,9 @@ pub fn word_at(text: &[u8], index: usize) -> Option<Span>
     }
 }
 
-// The bytes of a part that lies in the text.
+// The bytes of a word.
 pub(crate) fn bytes_of(text: &[u8], span: Span) -> &[u8]
-    requires { ⌜ Within (now text) span ⌝ }
+    requires { ⌜ Word (now text) span ⌝ }
     ensures { λ r. ⌜ now r ≡ spelled (now (text .entry)) span ⌝ }
 {
     let Span { start, end } = span;

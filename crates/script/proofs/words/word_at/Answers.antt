@@ -10,7 +10,7 @@ use Rattle.script.proofs.words.word_at.Needs.{then-not-is-blank, else-not-is-b
 pub returns-then-left-eq0 : need.returns-then-left-eq0
 returns-then-left-eq0 c =
     let f = found (c .args .text .now) (c .args .index) (c .loop-i .start) (c .in-Some .from) (c .loop-i .i) (c .loop-i .left) (c .loop-i-test .taken) (sym (c .if-not-is-blank .ensures tt)) (c .in-Some .is) (c .if-left-eq0 .taken) (c .loop-i .inv) in
-    record { word = f .0; within = (f .1, omega arith) }
+    record { place = f .0; word = f .1 }
 
 pub loop-i-again : need.loop-i-again
 loop-i-again c =
@@ -31,12 +31,12 @@ loop-i-again c =
 pub returns-then-left-eq0-2 : need.returns-then-left-eq0-2
 returns-then-left-eq0-2 c =
     let f = found-last (c .args .text .now) (c .args .index) (c .loop-i .start) (c .in-Some-start .from) (c .loop-i .i) (c .loop-i .left) (omega arith) (c .in-Some-start .is) (c .if-left-eq0-2 .taken) (c .loop-i .inv) in
-    record { word = f .0; within = (f .1, omega arith) }
+    record { place = f .0; word = f .1 }
 
 pub returns-else-left-eq0-2 : need.returns-else-left-eq0-2
 returns-else-left-eq0-2 c =
-    record { word = missing (c .args .text .now) (c .args .index) (c .loop-i .start) (c .in-Some-start .from) (c .loop-i .i) (c .loop-i .left) (c .loop-i-test .left) (c .in-Some-start .is) (c .if-left-eq0-2 .left) (c .loop-i .inv); within = tt }
+    record { place = missing (c .args .text .now) (c .args .index) (c .loop-i .start) (c .in-Some-start .from) (c .loop-i .i) (c .loop-i .left) (c .loop-i-test .left) (c .in-Some-start .is) (c .if-left-eq0-2 .left) (c .loop-i .inv); word = tt }
 
 pub returns-in-rest-start : need.returns-in-rest-start
 returns-in-rest-start c =
-    record { word = ended (c .args .text .now) (c .args .index) (c .loop-i .start) (c .loop-i .i) (c .loop-i .left) (c .loop-i-test .left) (c .in-rest-start .is) (c .loop-i .inv); within = tt }
+    record { place = ended (c .args .text .now) (c .args .index) (c .loop-i .start) (c .loop-i .i) (c .loop-i .left) (c .loop-i-test .left) (c .in-rest-start .is) (c .loop-i .inv); word = tt }
