@@ -95,7 +95,7 @@ fn complain(rt: &impl Eprint, number: u64, complaint: Complaint) -> io::Result<(
 }
 
 // All layouts, or an error once each line that can't be read was named.
-pub fn read_layouts(rt: &LibcRuntime) -> Result<Vec<Layout>, AnyError> {
+pub(crate) fn read_layouts(rt: &LibcRuntime) -> Result<Vec<Layout>, AnyError> {
     let heap = rt.alloc();
     let mut layouts: Vec<Layout> = Vec::new(heap);
     let mut number: u64 = 0;

@@ -91,7 +91,7 @@ fn print_accepted(rt: &impl Print, layout: &Layout, key: &BucketKey) -> io::Resu
 }
 
 // What the device would be asked for, or the refusal.
-pub fn print_layout(rt: &impl Print, layout: &Layout) -> io::Result<()> {
+pub(crate) fn print_layout(rt: &impl Print, layout: &Layout) -> io::Result<()> {
     let name = layout.name.as_str();
     let count = layout.entries.len();
     let partially = if layout.partially_bound {

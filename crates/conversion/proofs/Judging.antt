@@ -3,9 +3,9 @@ use Prim.Native.Nat.{ℕ, zero, suc, _+_, _-_, _^_, _≤_, _<_}
 use native.Mathlib.Nat.{eq-or-lt-of-le, le-of-suc-le-suc}
 use native.Mathlib.Omega.{arith}
 use mathlib.Core.Path.{_≡_, refl, ap, _∙_, sym, subst}
-use mathlib.Core.Bool.{Bool, true, false, cond}
-use mathlib.Core.Logic.{_⊎_, inl, inr}
-use mathlib.Core.List.{List, [], _∷_}
+use mathlib.Core.Bool.{false}
+use mathlib.Core.Logic.{inl, inr}
+use mathlib.Core.List.{List}
 use lib.ListN.{length, getD, take}
 use Rattle.std.specs.Options.{mapped, orOther}
 use Rattle.std.specs.shelf.Lists.{sumBy}
@@ -17,7 +17,7 @@ use Rattle.std.proofs.shelf.Lists.{take-all}
 use Rattle.std.proofs.shelf.Sums.{sumBy-take-le}
 use Rattle.std.proofs.shelf.Ways.{tells}
 use Rattle.conversion.specs.Lists.{first}
-use Rattle.conversion.specs.Layouts.{noEntry, entryCount, outOfOrder, external, overfull, tooMany, misordered, withExternal, overflowing, layoutRefusal, unlessRefused, layoutAnswer, keyOf, countsOf, WellFormed, Judged}
+use Rattle.conversion.specs.Layouts.{noEntry, entryCount, outOfOrder, external, overfull, tooMany, misordered, withExternal, overflowing, layoutRefusal, unlessRefused, layoutAnswer, keyOf, WellFormed, Judged}
 use Rattle.conversion.specs.declared.counts.BucketKey.{BucketKey}
 use Rattle.conversion.specs.declared.entries.LayoutEntry.{LayoutEntry}
 use Rattle.conversion.specs.declared.faults.LayoutFault.{LayoutFault}

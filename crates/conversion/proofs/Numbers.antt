@@ -1,26 +1,20 @@
 -- Steps of the loops over kinds and stage bits.
 use Prim.Native.Nat.{ℕ, _+_, _*_, _%_, _^_, _<_}
 use mathlib.Core.Path.{_≡_}
-use mathlib.Core.Bool.{true, false}
 use mathlib.Core.List.{List}
 use native.Mathlib.Numerals.{add-one}
 use native.Mathlib.Omega.{arith}
 use lib.Bits.{bitAnd, bitOr}
-use lib.Dec.{eqb}
 use lib.ListN.{length, getD, drop}
 use Rattle.std.proofs.shelf.Bits.{one-shl}
 use Rattle.std.proofs.shelf.Lists.{drop-more}
 use Rattle.std.proofs.shelf.Ways.{tells}
-use Rattle.std.specs.declared.option.Option.the-variants.{Some}
 use Rattle.conversion.specs.declared.kinds.Kind.{Kind}
 use Rattle.conversion.specs.Kinds.{typedAmong, typeNumber}
 use Rattle.conversion.specs.Stages.{stagesBelow, stageTable}
 
 pub typed-next : (ks : List Kind) (i t : ℕ) (d : Kind) → i < length ks → (typeNumber (getD ks i d) ≡ t → ⊥) → typedAmong (drop i ks) t ≡ typedAmong (drop (i + 1) ks) t
 typed-next ks i t d h e = rw (drop-more ks i d h) (grind (arith, tells))
-
-pub typed-here : (ks : List Kind) (i t : ℕ) (d : Kind) → i < length ks → typeNumber (getD ks i d) ≡ t → typedAmong (drop i ks) t ≡ Some (getD ks i d)
-typed-here ks i t d h e = rw (drop-more ks i d h) (grind (arith, tells))
 
 pub stage-set : (s k f : ℕ) → k < 32 → f ≡ stagesBelow k s → (bitAnd s ((1 * 2 ^ k) % 2 ^ 32) ≡ 0 → ⊥) → bitOr f (getD stageTable k 0) ≡ stagesBelow (k + 1) s
 stage-set s k f h e t = let p = one-shl k 32 h in let q = rw p at t in rw (add-one k, e) (grind (arith, tells))

@@ -1,9 +1,8 @@
-use Prim.Native.Nat.{_-_, _+_, min}
-use mathlib.Core.Path.{_≡_, refl, ap, ap₂, _∙_}
-use mathlib.Core.List.{_++_}
+use Prim.Native.Nat.{_-_}
+use mathlib.Core.Path.{ap₂, _∙_}
 use native.Mathlib.Omega.{arith}
-use lib.ListN.{length, length-set, set, take, replicate}
-use Rattle.conversion.specs.Layouts.{deviceBinding, deviceBindings, noBinding, noEntry}
+use lib.ListN.{length-set, set}
+use Rattle.conversion.specs.Layouts.{deviceBinding, noBinding, noEntry}
 use Rattle.conversion.proofs.Rows.{row-more, row-end}
 use Rattle.conversion.proofs.bindings.device_bindings.Needs as need
 

@@ -1,9 +1,9 @@
 use Prim.Native.Nat.{_+_, _-_}
 use native.Mathlib.Omega.{arith}
-use mathlib.Core.Path.{_≡_, refl, ap, sym, subst, _∙_}
+use mathlib.Core.Path.{ap, sym, _∙_}
 use Rattle.std.specs.Options.{valueOr}
 use Rattle.std.specs.declared.option.Option.the-variants.{Some, None}
-use Rattle.script.proofs.Scans.{Seen, at-byte, at-blank, at-word, moved, found, found-last, missing, ended}
+use Rattle.script.proofs.Scans.{at-byte, at-blank, at-word, moved, found, found-last, missing, ended}
 use Rattle.script.proofs.words.word_at.Needs as need
 use Rattle.script.proofs.words.word_at.Needs.{then-not-is-blank, else-not-is-blank·in-Some·else-left-eq0, else-not-is-blank·in-rest}
 

@@ -1,8 +1,7 @@
-use mathlib.Core.Path.{_∙_, sym, ap}
-use lib.ListN.{getD}
+use mathlib.Core.Path.{_∙_}
 use Rattle.conversion.specs.Kinds.{kinds}
 use Rattle.conversion.specs.declared.kinds.Kind.the-variants.{Sampler}
-use Rattle.conversion.proofs.Numbers.{typed-next, typed-here}
+use Rattle.conversion.proofs.Numbers.{typed-next}
 use Rattle.conversion.proofs.kinds.Kind.of_type.Needs as need
 
 pub loop-kind-again : need.loop-kind-again
