@@ -1,0 +1,3 @@
+pub mod Kindly
+pub mod Below
+pub mod Counted

@@ -1,0 +1,7 @@
+pub mod Results
+pub mod Meaning
+pub mod Writes
+pub mod Calls
+pub mod Fair
+pub mod Requests
+pub mod Laws

@@ -1,0 +1,5 @@
+// A device for descriptor sets, known by its meaning alone.
+pub mod faults;
+pub mod laws;
+pub mod meaning;
+pub mod records;
