@@ -1,3 +1,4 @@
 pub mod Kindly
 pub mod Below
 pub mod Counted
+pub mod Ordered

@@ -21,7 +21,7 @@ use Rattle.device.specs.declared.records.PoolSize.{PoolSize}
 use Rattle.device.specs.declared.records.Write.{Write}
 use Rattle.device.specs.Meaning.{State, LiveLayout, LivePool, LiveSet, afterBind, unfit, bindingCounts, sizeCounts, exhausted, remembering}
 use Rattle.device.specs.Results.{unknown, outOfPool, fragmentedPool, isResult, answered}
-use Rattle.device.specs.Writes.{Lists, putAll, allValid}
+use Rattle.device.specs.Writes.{Lists, afterWrites, someInvalid}
 
 -- holdings with one more, if a handle was given
 abbrev pub Added : {X : Type 0} → Result ℕ DeviceFault → X → (ℕ → Option X) → (ℕ → Option X) → Type 0
@@ -150,12 +150,12 @@ pub record SetFreed (m : State) (p s : ℕ) (r : Bool) (n : State) : Type 0 wher
   pub sets : n .sets ≡ cond r (update eqb (m .sets) s None) (m .sets)
   pub mark : n .mark ≡ m .mark
 
--- writing: each write in order, and a mark if one is invalid
+-- writing: each element holds what the last valid write to it says; an invalid one sets the mark
 pub record Updated (m : State) (ws : List Write) (l : Lists) (n : State) : Type 0 where
   pub layouts : n .layouts ≡ m .layouts
   pub pools : n .pools ≡ m .pools
-  pub sets : n .sets ≡ putAll l ws (m .sets)
-  pub mark : n .mark ≡ (m .mark || not (allValid l ws (m .sets)))
+  pub sets : n .sets ≡ afterWrites l ws (m .sets)
+  pub mark : n .mark ≡ (m .mark || someInvalid l ws (m .sets))
 
 -- an empty device holds nothing and has no mark
 pub record Empty (s : State) : Type 0 where

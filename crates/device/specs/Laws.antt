@@ -1,10 +1,11 @@
 -- What the definitions say together. Assumes nothing.
 use Prim.Native.Nat.{ℕ, _+_, _^_, _<_}
 use mathlib.Core.Path.{_≡_}
-use mathlib.Core.Bool.{Bool, true, cond}
-use mathlib.Core.List.{List}
+use mathlib.Core.Bool.{Bool, true, cond, _||_}
+use mathlib.Core.List.{List, [], _∷_}
 use lib.Dec.{eqb}
 use Rattle.std.specs.Options.{isSome}
+use Rattle.std.specs.declared.option.Option.{Option}
 use Rattle.std.specs.declared.option.Option.the-variants.{Some, None}
 use Rattle.std.specs.declared.result.Result.the-variants.{Ok}
 use Rattle.conversion.specs.Counts.{countOf}
@@ -12,6 +13,8 @@ use Rattle.conversion.specs.Layouts.{countsOf, deviceBindings}
 use Rattle.conversion.specs.declared.kinds.Kind.{Kind}
 use Rattle.conversion.specs.declared.entries.LayoutEntry.{LayoutEntry}
 use Rattle.device.specs.Meaning.{State, LiveSet, bindingCounts, liveSets, inUse}
+use Rattle.device.specs.declared.records.Write.{Write}
+use Rattle.device.specs.Writes.{Lists, afterWrites, someInvalid}
 use Rattle.device.specs.Calls.{Empty, SetMade, SetFreed, PoolGone, bindingsIn}
 
 -- a device counts of converted entries what the entries count
@@ -39,3 +42,10 @@ abbrev pub GoneCounts : Type 0
 GoneCounts =
     (m n : State) (p : ℕ) → isSome (m .pools p) ≡ true → PoolGone m p n → (q : ℕ) (k : Kind)
     → (liveSets n q ≡ cond (eqb p q) 0 (liveSets m q)) × (inUse n q k ≡ cond (eqb p q) 0 (inUse m q k))
+
+-- writes of one call do what a call for each, in order, would do, and one is invalid exactly if one of those calls would be
+abbrev pub WritesInOrder : Type 0
+WritesInOrder =
+    (l : Lists) (w : Write) (ws : List Write) (sets : ℕ → Option LiveSet)
+    → (afterWrites l (w ∷ ws) sets ≡ afterWrites l ws (afterWrites l (w ∷ []) sets))
+    × (someInvalid l (w ∷ ws) sets ≡ (someInvalid l (w ∷ []) sets || someInvalid l ws (afterWrites l (w ∷ []) sets)))

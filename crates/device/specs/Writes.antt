@@ -1,13 +1,14 @@
 -- What writes put into sets. Assumes nothing.
 use Prim.Native.Nat.{ℕ, _+_}
-use mathlib.Core.Bool.{Bool, true, false, cond, _&&_}
+use mathlib.Core.Bool.{Bool, false, cond, not, _&&_}
 use mathlib.Core.List.{List, [], _∷_}
 use lib.Dec.{eqb, leb, ltb}
 use lib.ListN.{length}
 use Rattle.std.specs.Finite.{nth}
-use Rattle.std.specs.Options.{mapped}
+use Rattle.std.specs.Options.{mapped, orOther}
 use Rattle.std.specs.declared.option.Option.{Option}
 use Rattle.std.specs.declared.option.Option.the-variants.{Some, None}
+use Rattle.conversion.specs.Lists.{any}
 use Rattle.conversion.specs.Kinds.{kindOfType}
 use Rattle.conversion.specs.declared.kinds.Kind.{Kind}
 use Rattle.conversion.specs.declared.kinds.Kind.the-variants.{Sampler, SampledImage, StorageImage, UniformBuffer, UniformBufferDynamic, StorageBuffer, StorageBufferDynamic, AccelerationStructure}
@@ -81,20 +82,28 @@ validIn l w (Some s) = fits w (nth (s .bindings) (w .binding)) && eqb (w .elemen
 abbrev pub valid : Lists → Write → (ℕ → Option LiveSet) → Bool
 valid l w sets = validIn l w (sets (w .set))
 
--- a set in which the write's descriptors stand, from element 0 of its binding on
-abbrev pub putInto : Lists → Write → LiveSet → LiveSet
-putInto l w s = record { pool = s .pool; bindings = s .bindings; written = λ b j. cond (eqb b (w .binding) && ltb j (w .count)) (descriptorOf l w j (kindOfType (w .«descriptor_type»))) (s .written b j) }
+-- whether a write covers an element: it goes to that binding of that set, and so far
+abbrev pub covers : Write → ℕ → ℕ → ℕ → Bool
+covers w h b j = eqb (w .set) h && eqb (w .binding) b && ltb j (w .count)
 
--- one write: an invalid one changes nothing
-abbrev pub put : Lists → Write → (ℕ → Option LiveSet) → ℕ → Option LiveSet
-put l w sets h = cond (eqb h (w .set) && valid l w sets) (mapped (putInto l w) (sets h)) (sets h)
+-- the last of some writes that is valid and covers an element
+abbrev pub lastTo : Lists → (ℕ → Option LiveSet) → ℕ → ℕ → ℕ → List Write → Option Write
+lastTo l sets h b j [] = None
+lastTo l sets h b j (w ∷ ws) = orOther (lastTo l sets h b j ws) (cond (covers w h b j && valid l w sets) (Some w) None)
 
--- all writes of a call, in order
-abbrev pub putAll : Lists → List Write → (ℕ → Option LiveSet) → ℕ → Option LiveSet
-putAll l [] sets = sets
-putAll l (w ∷ ws) sets = putAll l ws (put l w sets)
+-- what an element holds then: the descriptor of that write, or what it held
+abbrev pub holding : Lists → ℕ → Option Descriptor → Option Write → Option Descriptor
+holding l j old None = old
+holding l j old (Some w) = descriptorOf l w j (kindOfType (w .«descriptor_type»))
 
--- whether each is valid
-abbrev pub allValid : Lists → List Write → (ℕ → Option LiveSet) → Bool
-allValid l [] sets = true
-allValid l (w ∷ ws) sets = valid l w sets && allValid l ws (put l w sets)
+-- a set after some writes
+abbrev pub setAfter : Lists → List Write → (ℕ → Option LiveSet) → ℕ → LiveSet → LiveSet
+setAfter l ws sets h s = record { pool = s .pool; bindings = s .bindings; written = λ b j. holding l j (s .written b j) (lastTo l sets h b j ws) }
+
+-- all sets after some writes; validity is judged by what is held before, since no write changes what it looks at
+abbrev pub afterWrites : Lists → List Write → (ℕ → Option LiveSet) → ℕ → Option LiveSet
+afterWrites l ws sets h = mapped (setAfter l ws sets h) (sets h)
+
+-- whether one of the writes is invalid
+abbrev pub someInvalid : Lists → List Write → (ℕ → Option LiveSet) → Bool
+someInvalid l ws sets = any (λ w. not (valid l w sets)) ws
