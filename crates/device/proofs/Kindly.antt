@@ -16,18 +16,8 @@ use Rattle.conversion.specs.declared.kinds.EntryKind.{EntryKind}
 use Rattle.conversion.specs.declared.kinds.EntryKind.the-variants as kind
 use Rattle.conversion.specs.declared.entries.LayoutEntry.{LayoutEntry}
 use Rattle.conversion.specs.declared.bindings.DeviceBinding.{DeviceBinding}
+use Rattle.conversion.proofs.Numbers.{by-kind}
 use Rattle.device.specs.Laws.{CountsAgree}
-
--- what holds of each of the eight holds of every kind
-pub by-kind : (P : Kind → Type 0) → P Sampler → P SampledImage → P StorageImage → P UniformBuffer → P UniformBufferDynamic → P StorageBuffer → P StorageBufferDynamic → P AccelerationStructure → (k : Kind) → P k
-by-kind P a b c d e f g h Sampler = a
-by-kind P a b c d e f g h SampledImage = b
-by-kind P a b c d e f g h StorageImage = c
-by-kind P a b c d e f g h UniformBuffer = d
-by-kind P a b c d e f g h UniformBufferDynamic = e
-by-kind P a b c d e f g h StorageBuffer = f
-by-kind P a b c d e f g h StorageBufferDynamic = g
-by-kind P a b c d e f g h AccelerationStructure = h
 
 -- two kinds have one number exactly if they have one place
 abbrev Same : Kind → Kind → Type 0
