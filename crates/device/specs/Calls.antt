@@ -2,9 +2,10 @@
 use Prim.Native.Nat.{ℕ}
 use mathlib.Core.Path.{_≡_}
 use mathlib.Core.Bool.{Bool, true, false, cond, not, _||_}
-use mathlib.Core.List.{List, [], _∷_}
+use mathlib.Core.List.{List, []}
 use lib.Dec.{eqb}
 use lib.IntN.{ℤ}
+use lib.ListN.{length, getD, take}
 use Rattle.std.specs.Finite.{update}
 use Rattle.std.specs.Options as options
 use Rattle.std.specs.Results.{Cases}
@@ -12,7 +13,7 @@ use Rattle.std.specs.declared.option.Option.{Option}
 use Rattle.std.specs.declared.option.Option.the-variants.{Some, None}
 use Rattle.std.specs.declared.result.Result.{Result}
 use Rattle.std.specs.declared.result.Result.the-variants.{Ok, Err}
-use Rattle.conversion.specs.Lists.{any}
+use Rattle.conversion.specs.Lists.{first, any}
 use Rattle.conversion.specs.Kinds.{kindOfType}
 use Rattle.conversion.specs.declared.bindings.DeviceBinding.{DeviceBinding}
 use Rattle.conversion.specs.declared.results.DeviceCall.the-variants as call
@@ -58,14 +59,29 @@ pub record LayoutGone (m : State) (l : ℕ) (n : State) : Type 0 where
   pub sets : n .sets ≡ m .sets
   pub mark : n .mark ≡ m .mark
 
--- whether a list of sizes has a size of 0, such a type, or one type twice
-abbrev pub badSizes : List PoolSize → Bool
-badSizes [] = false
-badSizes (s ∷ ss) = eqb (s .count) 0 || unknownType (s .«descriptor_type») || any (λ t. eqb (t .«descriptor_type») (s .«descriptor_type»)) ss || badSizes ss
+-- whether a type is listed
+abbrev pub hasType : ℕ → List PoolSize → Bool
+hasType t ss = any (λ s. eqb (s .«descriptor_type») t) ss
 
--- a pool is invalid if it has such sizes, or no sets
+-- a size is invalid if it is 0, if its type is none of the eight, or if its type stands before it
+abbrev pub badSize : PoolSize → List PoolSize → Bool
+badSize s before = eqb (s .count) 0 || (unknownType (s .«descriptor_type») || hasType (s .«descriptor_type») before)
+
+-- what stands past the end of a list of sizes
+abbrev pub noSize : PoolSize
+noSize = record { «descriptor_type» = 0; count = 0 }
+
+-- whether size i is
+abbrev pub badSizeAt : List PoolSize → ℕ → Bool
+badSizeAt ss i = badSize (getD ss i noSize) (take i ss)
+
+-- whether one of the sizes is
+abbrev pub badSizes : List PoolSize → Bool
+badSizes ss = options.isSome (first (badSizeAt ss) (length ss))
+
+-- a pool is invalid if one of its sizes is, or if it has no sets
 abbrev pub badPool : ℕ → List PoolSize → Bool
-badPool most sizes = eqb most 0 || badSizes sizes
+badPool most sizes = badSizes sizes || eqb most 0
 
 -- the answer to a pool that is asked for
 abbrev pub poolAnswer : State → ℕ → List PoolSize → ℕ → Result ℕ ℤ

@@ -3,3 +3,4 @@ pub mod faults;
 pub mod laws;
 pub mod meaning;
 pub mod records;
+pub mod validity;
