@@ -13,6 +13,8 @@ use Rattle.std.specs.declared.option.Option.{Option}
 use Rattle.std.specs.declared.option.Option.the-variants.{Some, None}
 use Rattle.std.specs.declared.result.Result.{Result}
 use Rattle.std.specs.declared.result.Result.the-variants.{Ok, Err}
+use Rattle.std.specs.Results.{ErrBy}
+use Rattle.std.proofs.shelf.Results.{err-from-errBy}
 use Rattle.std.proofs.shelf.Lists.{take-all}
 use Rattle.std.proofs.shelf.Sums.{sumBy-take-le}
 use Rattle.std.proofs.shelf.Ways.{tells}
@@ -135,3 +137,10 @@ module _ (es : List LayoutEntry) where
 -- the answer, however it was come by
 pub judged-as : (es : List LayoutEntry) (r : Result BucketKey LayoutFault) → r ≡ layoutAnswer es → Judged es r
 judged-as es r e = subst (Judged es) (sym e) (judged es)
+
+-- the exit of a `?`, where the fault is the first refusal
+pub left-by : (es : List LayoutEntry) (r : Result BucketKey LayoutFault) (f : LayoutFault) → ErrBy r (λ y. y ≡ f) → Err f ≡ layoutAnswer es → (r ≡ layoutAnswer es) × Judged es r
+left-by es r f b q =
+    let p = err-from-errBy r b in
+    let e : r ≡ layoutAnswer es = p .1 ∙ (ap Err (p .2) ∙ q) in
+    (e, judged-as es r e)

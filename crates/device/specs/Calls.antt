@@ -37,12 +37,12 @@ abbrev pub unknownType : ℕ → Bool
 unknownType t = not (options.isSome (kindOfType t))
 
 -- a layout is invalid if it has such a type
-abbrev pub badLayout : List DeviceBinding → Bool
-badLayout bs = any (λ b. unknownType (b .«descriptor_type»)) bs
+abbrev pub invalidLayout : List DeviceBinding → Bool
+invalidLayout bs = any (λ b. unknownType (b .«descriptor_type»)) bs
 
 -- the answer to a layout that is asked for
 abbrev pub layoutAnswer : State → List DeviceBinding → ℕ → Result ℕ ℤ
-layoutAnswer m bs flags = unlessInvalid (badLayout bs) (m .layoutFixed bs flags)
+layoutAnswer m bs flags = unlessInvalid (invalidLayout bs) (m .layoutFixed bs flags)
 
 -- making a layout
 pub record LayoutMade (m : State) (bs : List DeviceBinding) (flags : ℕ) (r : Result ℕ DeviceFault) (n : State) : Type 0 where
@@ -50,7 +50,7 @@ pub record LayoutMade (m : State) (bs : List DeviceBinding) (flags : ℕ) (r : R
   pub layouts : Added r (record { bindings = bs; flags = flags }) (m .layouts) (n .layouts)
   pub pools : n .pools ≡ m .pools
   pub sets : n .sets ≡ m .sets
-  pub mark : n .mark ≡ (m .mark || badLayout bs)
+  pub mark : n .mark ≡ (m .mark || invalidLayout bs)
 
 -- destroying a layout leaves its sets
 pub record LayoutGone (m : State) (l : ℕ) (n : State) : Type 0 where
@@ -64,28 +64,28 @@ abbrev pub hasType : ℕ → List PoolSize → Bool
 hasType t ss = any (λ s. eqb (s .«descriptor_type») t) ss
 
 -- a size is invalid if it is 0, if its type is none of the eight, or if its type stands before it
-abbrev pub badSize : PoolSize → List PoolSize → Bool
-badSize s before = eqb (s .count) 0 || (unknownType (s .«descriptor_type») || hasType (s .«descriptor_type») before)
+abbrev pub invalidSize : PoolSize → List PoolSize → Bool
+invalidSize s before = eqb (s .count) 0 || (unknownType (s .«descriptor_type») || hasType (s .«descriptor_type») before)
 
 -- what stands past the end of a list of sizes
 abbrev pub noSize : PoolSize
 noSize = record { «descriptor_type» = 0; count = 0 }
 
 -- whether size i is
-abbrev pub badSizeAt : List PoolSize → ℕ → Bool
-badSizeAt ss i = badSize (getD ss i noSize) (take i ss)
+abbrev pub invalidSizeAt : List PoolSize → ℕ → Bool
+invalidSizeAt ss i = invalidSize (getD ss i noSize) (take i ss)
 
 -- whether one of the sizes is
-abbrev pub badSizes : List PoolSize → Bool
-badSizes ss = options.isSome (first (badSizeAt ss) (length ss))
+abbrev pub invalidSizes : List PoolSize → Bool
+invalidSizes ss = options.isSome (first (invalidSizeAt ss) (length ss))
 
 -- a pool is invalid if one of its sizes is, or if it has no sets
-abbrev pub badPool : ℕ → List PoolSize → Bool
-badPool most sizes = badSizes sizes || eqb most 0
+abbrev pub invalidPool : ℕ → List PoolSize → Bool
+invalidPool most sizes = invalidSizes sizes || eqb most 0
 
 -- the answer to a pool that is asked for
 abbrev pub poolAnswer : State → ℕ → List PoolSize → ℕ → Result ℕ ℤ
-poolAnswer m most sizes flags = unlessInvalid (badPool most sizes) (m .poolFixed most sizes flags)
+poolAnswer m most sizes flags = unlessInvalid (invalidPool most sizes) (m .poolFixed most sizes flags)
 
 -- a pool in which no set was made yet
 abbrev pub newPool : ℕ → List PoolSize → ℕ → LivePool
@@ -97,7 +97,7 @@ pub record PoolMade (m : State) (most : ℕ) (sizes : List PoolSize) (flags : �
   pub layouts : n .layouts ≡ m .layouts
   pub pools : Added r (newPool most sizes flags) (m .pools) (n .pools)
   pub sets : n .sets ≡ m .sets
-  pub mark : n .mark ≡ (m .mark || badPool most sizes)
+  pub mark : n .mark ≡ (m .mark || invalidPool most sizes)
 
 -- what is left of a set when a pool is gone
 abbrev pub outside : ℕ → Option LiveSet → Option LiveSet
@@ -122,10 +122,10 @@ abbrev pub setAnswer : State → ℕ → ℕ → Result ℕ ℤ
 setAnswer m p l = setFrom m p l (m .pools p) (m .layouts l)
 
 -- whether asking is invalid
-abbrev pub badSet : Option LivePool → Option LiveLayout → Bool
-badSet None layout = true
-badSet (Some pool) None = true
-badSet (Some pool) (Some layout) = unfit pool layout
+abbrev pub invalidSet : Option LivePool → Option LiveLayout → Bool
+invalidSet None layout = true
+invalidSet (Some pool) None = true
+invalidSet (Some pool) (Some layout) = unfit pool layout
 
 -- the answers that set the mark
 abbrev pub setsMark : Result ℕ ℤ → Bool
@@ -151,7 +151,7 @@ pub record SetMade (m : State) (p l : ℕ) (r : Result ℕ DeviceFault) (n : Sta
   pub layouts : n .layouts ≡ m .layouts
   pub pools : Cases r (λ h. n .pools ≡ update eqb (m .pools) p (remembered (bindingsIn (m .layouts l)) (m .pools p))) (λ e. n .pools ≡ m .pools)
   pub sets : Added r (newSet p (bindingsIn (m .layouts l))) (m .sets) (n .sets)
-  pub mark : n .mark ≡ (m .mark || badSet (m .pools p) (m .layouts l) || setsMark (setAnswer m p l))
+  pub mark : n .mark ≡ (m .mark || invalidSet (m .pools p) (m .layouts l) || setsMark (setAnswer m p l))
 
 -- whether a set lives in a pool
 abbrev pub livesIn : ℕ → Option LiveSet → Bool

@@ -28,7 +28,7 @@ pub data Content : Type 0 where
 
 -- A descriptor, with its type number.
 pub record Descriptor : Type 0 where
-  pub sort : ℕ
+  pub descriptorType : ℕ
   pub content : Content
 
 -- A live layout. That it has arrays is read off flag 2 of its making, as in Vulkan's own rule, so the flags are held beside the bindings.

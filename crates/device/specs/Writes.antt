@@ -61,7 +61,7 @@ lies l w (Some k) = leb (w .start + w .count) (lengthOf l (recordsOf k))
 
 -- a descriptor by its parts
 abbrev pub descriptor : ℕ → Content → Descriptor
-descriptor t c = record { sort = t; content = c }
+descriptor t c = record { descriptorType = t; content = c }
 
 -- descriptor i of a write
 abbrev pub descriptorOf : Lists → Write → ℕ → Option Kind → Option Descriptor

@@ -3,7 +3,7 @@ use crate::records::PoolSize;
 use conversion::bindings::DeviceBinding;
 use conversion::kinds::Kind;
 ghost use mathlib.Core.Path.{_≡_};
-ghost use Rattle.device.specs.Calls.{unknownType, badLayout, hasType, badSize, badPool};
+ghost use Rattle.device.specs.Calls.{unknownType, invalidLayout, hasType, invalidSize, invalidPool};
 
 fn is_unknown_type(number: u32) -> bool
     ensures { λ r. ⌜ r ≡ unknownType number ⌝ }
@@ -13,7 +13,7 @@ fn is_unknown_type(number: u32) -> bool
 
 // Whether a binding has a type that is none of the eight.
 pub fn is_invalid_layout(bindings: &[DeviceBinding]) -> bool
-    ensures { λ r. ⌜ r ≡ badLayout (now (bindings .entry)) ⌝ }
+    ensures { λ r. ⌜ r ≡ invalidLayout (now (bindings .entry)) ⌝ }
 {
     for binding in bindings {
         if is_unknown_type(binding.descriptor_type) {
@@ -34,8 +34,8 @@ fn has_type(sizes: &[PoolSize], number: u32) -> bool
     false
 }
 
-fn is_bad_size(size: &PoolSize, before: &[PoolSize]) -> bool
-    ensures { λ r. ⌜ r ≡ badSize (now (size .entry)) (now (before .entry)) ⌝ }
+fn is_invalid_size(size: &PoolSize, before: &[PoolSize]) -> bool
+    ensures { λ r. ⌜ r ≡ invalidSize (now (size .entry)) (now (before .entry)) ⌝ }
 {
     size.count == 0
         || is_unknown_type(size.descriptor_type)
@@ -44,10 +44,10 @@ fn is_bad_size(size: &PoolSize, before: &[PoolSize]) -> bool
 
 // Whether a pool has no sets, a size of 0, a type that is none of the eight, or one type twice.
 pub fn is_invalid_pool(most: u32, sizes: &[PoolSize]) -> bool
-    ensures { λ r. ⌜ r ≡ badPool most (now (sizes .entry)) ⌝ }
+    ensures { λ r. ⌜ r ≡ invalidPool most (now (sizes .entry)) ⌝ }
 {
     for (i, size) in sizes.iter().enumerate() {
-        if is_bad_size(size, &sizes[0..i]) {
+        if is_invalid_size(size, &sizes[0..i]) {
             return true;
         }
     }

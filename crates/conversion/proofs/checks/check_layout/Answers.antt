@@ -1,37 +1,26 @@
-use mathlib.Core.Path.{_≡_, ap, _∙_}
-use Rattle.std.specs.declared.result.Result.the-variants.{Ok, Err}
-use Rattle.std.proofs.shelf.Results.{err-from-errBy}
-use Rattle.conversion.specs.Layouts.{layoutAnswer}
-use Rattle.conversion.proofs.Judging.{by-order, by-kind, by-total, accepted, judged-as}
+use mathlib.Core.Path.{ap, _∙_}
+use Rattle.std.specs.declared.result.Result.the-variants.{Ok}
+use Rattle.conversion.proofs.Judging.{by-order, by-kind, by-total, accepted, judged-as, left-by}
 use Rattle.conversion.proofs.Sums.{key-of}
 use Rattle.conversion.proofs.checks.check_layout.Needs as need
 
 pub returns-in-Break-check-order : need.returns-in-Break-check-order
 returns-in-Break-check-order c =
-    let es = c .args .entries .now in
-    let r = c .from-residual-in-Break-check-order .result in
-    let p = err-from-errBy r (c .from-residual-in-Break-check-order .ensures .1) in
-    let q = by-order es _ (c .in-Continue-check-length .ensures tt) (c .in-Break-check-order .ensures tt) in
-    let e : r ≡ layoutAnswer es = p .1 ∙ (ap Err (p .2) ∙ q) in
-    record { answer = e; judged = judged-as es r e }
+    let q = by-order (c .args .entries .now) _ (c .in-Continue-check-length .ensures tt) (c .in-Break-check-order .ensures tt) in
+    let a = left-by (c .args .entries .now) (c .from-residual-in-Break-check-order .result) _ (c .from-residual-in-Break-check-order .ensures .1) q in
+    record { answer = a .0; judged = a .1 }
 
 pub returns-in-Break-check-kinds : need.returns-in-Break-check-kinds
 returns-in-Break-check-kinds c =
-    let es = c .args .entries .now in
-    let r = c .from-residual-in-Break-check-kinds .result in
-    let p = err-from-errBy r (c .from-residual-in-Break-check-kinds .ensures .1) in
-    let q = by-kind es _ (c .in-Continue-check-length .ensures tt) (c .in-Continue-check-order .ensures tt) (c .in-Break-check-kinds .ensures tt) in
-    let e : r ≡ layoutAnswer es = p .1 ∙ (ap Err (p .2) ∙ q) in
-    record { answer = e; judged = judged-as es r e }
+    let q = by-kind (c .args .entries .now) _ (c .in-Continue-check-length .ensures tt) (c .in-Continue-check-order .ensures tt) (c .in-Break-check-kinds .ensures tt) in
+    let a = left-by (c .args .entries .now) (c .from-residual-in-Break-check-kinds .result) _ (c .from-residual-in-Break-check-kinds .ensures .1) q in
+    record { answer = a .0; judged = a .1 }
 
 pub returns-in-Break-counts : need.returns-in-Break-counts
 returns-in-Break-counts c =
-    let es = c .args .entries .now in
-    let r = c .from-residual-in-Break-counts .result in
-    let p = err-from-errBy r (c .from-residual-in-Break-counts .ensures .1) in
-    let q = by-total es _ (c .in-Continue-check-length .ensures tt) (c .in-Continue-check-order .ensures tt) (c .in-Continue-check-kinds .ensures tt) (c .in-Break-counts .ensures tt) in
-    let e : r ≡ layoutAnswer es = p .1 ∙ (ap Err (p .2) ∙ q) in
-    record { answer = e; judged = judged-as es r e }
+    let q = by-total (c .args .entries .now) _ (c .in-Continue-check-length .ensures tt) (c .in-Continue-check-order .ensures tt) (c .in-Continue-check-kinds .ensures tt) (c .in-Break-counts .ensures tt) in
+    let a = left-by (c .args .entries .now) (c .from-residual-in-Break-counts .result) _ (c .from-residual-in-Break-counts .ensures .1) q in
+    record { answer = a .0; judged = a .1 }
 
 pub returns : need.returns
 returns c =
