@@ -1,4 +1,6 @@
 // The bench tool: reads layouts as text, and prints what a device would be asked for.
+#![tactic(auto)]
+
 mod input;
 mod report;
 

@@ -1,4 +1,6 @@
 // Layouts as wgpu describes them, and what Vulkan is told of them.
+#![tactic(auto)]
+
 pub mod bindings;
 pub mod cases;
 pub mod checks;

@@ -1,4 +1,6 @@
 // A device that counts: it keeps descriptors in a list of records, and gives each handle once.
+#![tactic(auto)]
+
 pub mod calls;
 pub mod counting;
 pub mod device;

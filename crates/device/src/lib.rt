@@ -1,4 +1,6 @@
 // A device for descriptor sets, known by its meaning alone.
+#![tactic(auto)]
+
 pub mod faults;
 pub mod laws;
 pub mod meaning;

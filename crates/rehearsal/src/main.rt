@@ -1,4 +1,6 @@
 // Rehearsal: reads layouts as text, and asks the counting device for those that are accepted.
+#![tactic(auto)]
+
 mod input;
 mod on_device;
 mod sample;

@@ -1,4 +1,6 @@
 // The tables of a device: rows with handles, and what they hold.
+#![tactic(auto)]
+
 pub mod access;
 pub mod bindings;
 pub mod counting;

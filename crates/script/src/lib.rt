@@ -1,4 +1,6 @@
 // Lines of a bench script, read.
+#![tactic(auto)]
+
 pub mod lines;
 pub mod names;
 #[cfg(test)]

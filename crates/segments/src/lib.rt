@@ -1,4 +1,6 @@
 // Segments of records, one after the other in one list, so that all room that is left is one piece at its end.
+#![tactic(auto)]
+
 mod calls;
 mod moves;
 

@@ -1,4 +1,6 @@
 // Trials of the counting device. What each call has to answer is taken from docs/RULES.md.
+#![tactic(auto)]
+
 #[cfg(test)]
 mod helpers;
 #[cfg(test)]

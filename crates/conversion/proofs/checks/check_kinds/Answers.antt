@@ -10,4 +10,4 @@ returns-in-ExternalTexture c =
     ap (option_map ExternalTexture) (first_at (external c.args.entries.now) c.loop-i.i _ c.loop-i-test.true c.loop-i.invariant (ap is_external c.in-ExternalTexture.is))
 
 pub loop-i-preserved : goal.loop-i-preserved
-loop-i-preserved c = first_next (external c.args.entries.now) c.loop-i.i c.loop-i.invariant (ap is_external c.in-default.is)
+loop-i-preserved c = first_next (external c.args.entries.now) c.loop-i.i c.loop-i.invariant (ap is_external c.in_default.is)

@@ -9,14 +9,14 @@ use Rattle.conversion.proofs.Searches.{first_next, first_at, first_fewer}
 use Rattle.conversion.proofs.Sums.{counts_more, counts_total, over, under}
 use Rattle.conversion.proofs.checks.count_descriptors.Goals as goal
 
-pub returns-in-default : goal.returns-in-default
-returns-in-default c =
+pub returns-in_default : goal.returns-in_default
+returns-in_default c =
     let s = sum_by_more entry_count c.args.entries.now c.loop-i.i no_entry c.loop-i-test.true in
-    let big : 4294967295 < sum_by entry_count (take (c.loop-i.i + 1) c.args.entries.now) = omega (arith, c.in-default.ensures, c.count.ensures) in
+    let big : 4294967295 < sum_by entry_count (take (c.loop-i.i + 1) c.args.entries.now) = omega (arith, c.in_default.ensures, c.count.ensures) in
     ap (option_map TooManyDescriptors) (first_at (overfull c.args.entries.now) c.loop-i.i _ c.loop-i-test.true c.loop-i.invariant.0 (over c.args.entries.now c.loop-i.i big))
 
-pub add-entry-requires : goal.add-entry-requires
-add-entry-requires c =
+pub add_entry-requires : goal.add_entry-requires
+add_entry-requires c =
     let t = counts_total (take c.loop-i.i c.args.entries.now) in
     let e = ap total c.loop-i.invariant.1 in
     omega (arith, c.in-Some.ensures.0, c.count.ensures, c.loop-i.invariant.2)
@@ -27,7 +27,7 @@ loop-i-preserved c =
     let sum : c.in-Some.sum ≡ sum_by entry_count (take (c.loop-i.i + 1) c.args.entries.now) = omega (arith, c.in-Some.ensures.1, c.count.ensures, c.loop-i.invariant.2) in
     let small : sum_by entry_count (take (c.loop-i.i + 1) c.args.entries.now) ≤ 4294967295 = omega (arith, c.in-Some.ensures.0, c.in-Some.ensures.1) in (
       first_next (overfull c.args.entries.now) c.loop-i.i c.loop-i.invariant.0 (under c.args.entries.now c.loop-i.i small),
-      counts_more c.args.entries.now c.loop-i.i no_entry c.loop-i.counts c.add-entry.new.self c.loop-i-test.true c.loop-i.invariant.1 c.add-entry.ensures,
+      counts_more c.args.entries.now c.loop-i.i no_entry c.loop-i.counts c.add_entry.new.self c.loop-i-test.true c.loop-i.invariant.1 c.add_entry.ensures,
       sum,
     )
 

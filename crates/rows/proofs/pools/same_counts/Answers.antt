@@ -11,6 +11,6 @@ loop-kind-preserved c =
     let a = c.args.a.now in
     let b = c.args.b.now in
     let k = get_or kinds c.loop-kind.kind-index Sampler in
-    let equal : count_of a k ≡ count_of b k = sym c.of-kind.ensures ∙ (c.if-of-kind.false ∙ c.of-kind-in-loop-kind.ensures) in
+    let equal : count_of a k ≡ count_of b k = sym c.of_kind.ensures ∙ (c.if-of_kind.false ∙ c.of_kind-in-loop-kind.ensures) in
     let same : not (eqb (count_of a k) (count_of b k)) ≡ false = grind (arith, nat_tests) in
     c.loop-kind.invariant ∙ any_next (λ k. not (eqb (count_of a k) (count_of b k))) kinds c.loop-kind.kind-index Sampler c.loop-kind-test.true same

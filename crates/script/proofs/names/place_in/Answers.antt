@@ -7,11 +7,11 @@ use Rattle.script.proofs.names.place_in.Goals as goal
 
 pub returns-then-spells : goal.returns-then-spells
 returns-then-spells c =
-    sym (c.loop-i.invariant ∙ name_here (λ n. n.now) c.args.names.now c.args.word.now c.loop-i.i _ c.loop-i-test.true (sym (c.if-spells.ensures ∙ ap (bytes_eq c.args.word.now) c.as-bytes.ensures.value)))
+    sym (c.loop-i.invariant ∙ name_here (λ n. n.now) c.args.names.now c.args.word.now c.loop-i.i _ c.loop-i-test.true (sym (c.if-spells.ensures ∙ ap (bytes_eq c.args.word.now) c.as_bytes.ensures.value)))
 
 pub loop-i-preserved : goal.loop-i-preserved
 loop-i-preserved c =
-    c.loop-i.invariant ∙ name_next (λ n. n.now) c.args.names.now c.args.word.now c.loop-i.i _ c.loop-i-test.true (sym (c.if-spells.ensures ∙ ap (bytes_eq c.args.word.now) c.as-bytes.ensures.value))
+    c.loop-i.invariant ∙ name_next (λ n. n.now) c.args.names.now c.args.word.now c.loop-i.i _ c.loop-i-test.true (sym (c.if-spells.ensures ∙ ap (bytes_eq c.args.word.now) c.as_bytes.ensures.value))
 
 pub returns : goal.returns
 returns c =

@@ -6,29 +6,29 @@ use Rattle.script.specs.Words.{value_from}
 use Rattle.script.proofs.Scans.{digit_more, digit_none, value_more, not_digits, too_large, in_full}
 use Rattle.script.proofs.words.decimal.Goals as goal
 
-pub returns-then-not-is-ascii-digit : goal.returns-then-not-is-ascii-digit
-returns-then-not-is-ascii-digit c =
+pub returns-then-not-is_ascii_digit : goal.returns-then-not-is_ascii_digit
+returns-then-not-is_ascii_digit c =
     let w = c.args.word.now in
-    not_digits w (c.loop-byte.invariant.0 ∙ digit_none w c.loop-byte.byte-index c.loop-byte-test.true (sym c.if-not-is-ascii-digit.ensures.value))
+    not_digits w (c.loop-byte.invariant.0 ∙ digit_none w c.loop-byte.byte-index c.loop-byte-test.true (sym c.if-not-is_ascii_digit.ensures.value))
 
-pub returns-then-value-gt-MAX-NUMBER : goal.returns-then-value-gt-MAX-NUMBER
-returns-then-value-gt-MAX-NUMBER c =
+pub returns-then-value-gt-MAX_NUMBER : goal.returns-then-value-gt-MAX_NUMBER
+returns-then-value-gt-MAX_NUMBER c =
     let w = c.args.word.now in
     let i = c.loop-byte.byte-index in
-    too_large w (drop (i + 1) w) (c.loop-byte.value * 10 + c.from.result) c.if-value-gt-MAX-NUMBER.true
+    too_large w (drop (i + 1) w) (c.loop-byte.value * 10 + c.from.result) c.if-value-gt-MAX_NUMBER.true
     (c.loop-byte.invariant.1 ∙ (value_more w c.loop-byte.value i c.loop-byte-test.true ∙ ap (λ d. value_from (c.loop-byte.value * 10 + d) (drop (i + 1) w)) (sym c.from.ensures)))
 
 pub loop-byte-preserved : goal.loop-byte-preserved
 loop-byte-preserved c =
     let w = c.args.word.now in
     let i = c.loop-byte.byte-index in (
-      c.loop-byte.invariant.0 ∙ digit_more w i c.loop-byte-test.true (sym c.if-not-is-ascii-digit.ensures.value),
+      c.loop-byte.invariant.0 ∙ digit_more w i c.loop-byte-test.true (sym c.if-not-is_ascii_digit.ensures.value),
       c.loop-byte.invariant.1 ∙ (value_more w c.loop-byte.value i c.loop-byte-test.true ∙ ap (λ d. value_from (c.loop-byte.value * 10 + d) (drop (i + 1) w)) (sym c.from.ensures)),
-      c.if-value-gt-MAX-NUMBER.false,
+      c.if-value-gt-MAX_NUMBER.false,
     )
 
-pub returns-else-is-empty : goal.returns-else-is-empty
-returns-else-is-empty c =
+pub returns-else-is_empty : goal.returns-else-is_empty
+returns-else-is_empty c =
     let w = c.args.word.now in
     let i = c.loop-byte.byte-index in
     let some : length w ≡ 0 → ⊥ = grind (arith, nat_tests) in

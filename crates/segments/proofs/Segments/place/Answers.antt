@@ -10,8 +10,8 @@ start-requires g c =
     let l = there c.args.self.now.lengths c.args.i c.args.j (omega arith) in
     omega arith
 
-pub overflow-add-result : goal.overflow-add-result
-overflow-add-result g c =
+pub overflow_add-result : goal.overflow_add-result
+overflow_add-result g c =
     let ls = c.args.self.now.lengths in
     let l = there ls c.args.i c.args.j (omega arith) in
     let w = sum_within (length_in ls) c.args.i g.row.S (omega arith) in

@@ -6,8 +6,8 @@ use Rattle.segments.proofs.Segments.start.Goals as goal
 pub loop-k-init : goal.loop-k-init
 loop-k-init g c = sym (sum_none (length_in c.args.self.now.lengths))
 
-pub overflow-add-start : goal.overflow-add-start
-overflow-add-start g c =
+pub overflow_add-start : goal.overflow_add-start
+overflow_add-start g c =
     let w = sum_within (length_in c.args.self.now.lengths) c.loop-k.k g.row.S (omega arith) in
     let f = c.args.self.now.fits in
     omega arith

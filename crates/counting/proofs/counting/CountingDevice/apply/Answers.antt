@@ -8,24 +8,24 @@ use Rattle.counting.proofs.Applied.{valid_is, sets_after}
 use Rattle.counting.proofs.Places.{no_set}
 use Rattle.counting.proofs.counting.CountingDevice.apply.Goals as goal
 
-pub returns-in-default : goal.returns-in-default
-returns-in-default c =
+pub returns-in_default : goal.returns-in_default
+returns-in_default c =
     let d = c.args.self.now in
     let w = c.args.write.now in
     let l = lists_of c.args.images.now c.args.buffers.now c.args.accelerations.now in
     let sets = sets_of d.holdings d.records in
-    let invalid = ap (valid_in l w) (no_set d w.set c.in-default.ensures) in
+    let invalid = ap (valid_in l w) (no_set d w.set c.in_default.ensures) in
     record { holdings = refl; last = refl; size = refl; sets = none_changed l w sets invalid; mark = marked d.mark (valid l w sets) invalid }
 
-pub returns-then-not-is-valid-write : goal.returns-then-not-is-valid-write
-returns-then-not-is-valid-write c =
+pub returns-then-not-is_valid_write : goal.returns-then-not-is_valid_write
+returns-then-not-is_valid_write c =
     let d = c.args.self.now in
     let w = c.args.write.now in
     let l = lists_of c.args.images.now c.args.buffers.now c.args.accelerations.now in
     let sets = sets_of d.holdings d.records in
     let set = c.in-Some.set in
     let is = c.in-Some.ensures in
-    let invalid = valid_is d d.records w l set.row set.value is.0 is.1 ∙ (ap (valid_for l w) (sym c.binding-there.ensures) ∙ sym c.if-not-is-valid-write.ensures) in
+    let invalid = valid_is d d.records w l set.row set.value is.0 is.1 ∙ (ap (valid_for l w) (sym c.binding-there.ensures) ∙ sym c.if-not-is_valid_write.ensures) in
     record { holdings = refl; last = refl; size = refl; sets = none_changed l w sets invalid; mark = marked d.mark (valid l w sets) invalid }
 
 pub invariant-of-self-2 : goal.invariant-of-self-2
@@ -40,5 +40,5 @@ returns c =
     let l = lists_of c.args.images.now c.args.buffers.now c.args.accelerations.now in
     let set = c.in-Some.set in
     let is = c.in-Some.ensures in
-    let ok = c.if-not-is-valid-write.ensures ∙ ap (valid_for l w) c.binding-there.ensures in
+    let ok = c.if-not-is_valid_write.ensures ∙ ap (valid_for l w) c.binding-there.ensures in
     record { holdings = refl; last = refl; size = c.fill.ensures.size; sets = sets_after d c.fill.new.records w l set.row set.value is.0 is.1 ok (subst (λ at. Filled d.records set.row at w w.count l c.fill.new.records) c.start-start.ensures.is c.fill.ensures); mark = unmarked d.mark (valid l w (sets_of d.holdings d.records)) (valid_is d d.records w l set.row set.value is.0 is.1 ∙ sym ok) }

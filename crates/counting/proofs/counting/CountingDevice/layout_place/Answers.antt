@@ -5,6 +5,6 @@ use Rattle.counting.proofs.counting.CountingDevice.layout_place.Goals as goal
 pub returns : goal.returns
 returns c =
     let list = c.in-Some.ensures in
-    let row = sym c.free-layout-row.ensures ∙ c.in-Some-free-layout-row.is in
-    let next = sym c.next-handle.ensures ∙ c.in-ok-handle.was in
-    record { fixed = layout_fixed_lem c.args.self.now c.args.bindings.now c.in-Some-free-layout-row.row c.in-ok-handle.handle list.0 row next; row = row; list = list.1 }
+    let row = sym c.free_layout_row.ensures ∙ c.in-Some-free_layout_row.is in
+    let next = sym c.next_handle.ensures ∙ c.in_ok-handle.was in
+    record { fixed = layout_fixed_lem c.args.self.now c.args.bindings.now c.in-Some-free_layout_row.row c.in_ok-handle.handle list.0 row next; row = row; list = list.1 }

@@ -15,7 +15,7 @@ invariant-of-result c =
         empty_given h.pools new.pools,
         (
           empty_given h.sets new.sets,
-          ((λ i. ap (λ f. f i) c.in-ok-records.ensures.lengths ∙ sym (ap (λ o. held_total (option_map (λ s. record { pool = s.value.pool; bindings = list_of (get_or h.bindings s.value.layout no_bindings) }) o)) (empty_row h.sets new.sets i))), (omega arith, tt)),
+          ((λ i. ap (λ f. f i) c.in_ok-records.ensures.lengths ∙ sym (ap (λ o. held_total (option_map (λ s. record { pool = s.value.pool; bindings = list_of (get_or h.bindings s.value.layout no_bindings) }) o)) (empty_row h.sets new.sets i))), (omega arith, tt)),
         ),
       ),
     )
@@ -29,9 +29,9 @@ returns c =
           record {
             layouts = empty_found h.layouts new.layouts (layout_in h.bindings h.layouts);
             pools = empty_found h.pools new.pools (pool_in h.pools);
-            sets = empty_found h.sets new.sets (live_in (set_at h) c.in-ok-records.records);
+            sets = empty_found h.sets new.sets (live_in (set_at h) c.in_ok-records.records);
             mark = refl;
           };
-      size = c.in-ok-records.ensures.size;
+      size = c.in_ok-records.ensures.size;
       last = refl;
     }

@@ -4,12 +4,12 @@ use Rattle.counting.proofs.counting.CountingDevice.set_place.Goals as goal
 
 pub returns-then-total-size : goal.returns-then-total-size
 returns-then-total-size c =
-    let row = sym c.unused-row.ensures ∙ c.in-Some.is in
-    let next = sym c.next-handle.ensures ∙ c.in-ok-handle.was in
-    set_refused c.args.self.now c.args.total c.in-Some.row c.in-ok-handle.handle row next c.args.self.now.records.fits (omega (arith, c.size.ensures, c.used.ensures, c.if-total-size.true))
+    let row = sym c.unused_row.ensures ∙ c.in-Some.is in
+    let next = sym c.next_handle.ensures ∙ c.in_ok-handle.was in
+    set_refused c.args.self.now c.args.total c.in-Some.row c.in_ok-handle.handle row next c.args.self.now.records.fits (omega (arith, c.size.ensures, c.used.ensures, c.if-total-size.true))
 
 pub returns : goal.returns
 returns c =
-    let row = sym c.unused-row.ensures ∙ c.in-Some.is in
-    let next = sym c.next-handle.ensures ∙ c.in-ok-handle.was in
-    record { fixed = set_fixed_lem c.args.self.now c.args.total c.in-Some.row c.in-ok-handle.handle row next c.args.self.now.records.fits (omega (arith, c.size.ensures, c.used.ensures, c.if-total-size.false)); row = row }
+    let row = sym c.unused_row.ensures ∙ c.in-Some.is in
+    let next = sym c.next_handle.ensures ∙ c.in_ok-handle.was in
+    record { fixed = set_fixed_lem c.args.self.now c.args.total c.in-Some.row c.in_ok-handle.handle row next c.args.self.now.records.fits (omega (arith, c.size.ensures, c.used.ensures, c.if-total-size.false)); row = row }

@@ -9,17 +9,17 @@ use Rattle.counting.proofs.Placed.{placed_next, placed_given, placed_sized, plac
 use Rattle.counting.proofs.Taken.{refused_set, bindings_there, remembers, or_last, or_none, valid_set, answer_full, answer_fixed, unmarked}
 use Rattle.counting.proofs.device.CountingDeviceDevice.allocate_set.Goals as goal
 
-pub returns-then-is-full : goal.returns-then-is-full
-returns-then-is-full c =
+pub returns-then-is_full : goal.returns-then-is_full
+returns-then-is_full c =
     let d = c.args.self.now in
     let p = c.in-Some.p in
     let l = c.in-Some-find.l in
     let pools = c.in-Some.ensures in
     let layouts = c.in-Some-find.ensures in
-    let fit = c.if-is-unfit.ensures in
-    let answer = answer_full d d.word c.args.pool c.args.layout p.value p.row l.row l.value pools layouts fit (sym c.if-is-full.ensures) in
+    let fit = c.if-is_unfit.ensures in
+    let answer = answer_full d d.word c.args.pool c.args.layout p.value p.row l.row l.value pools layouts fit (sym c.if-is_full.ensures) in
     let valid = valid_set d d.word c.args.pool c.args.layout p.value p.row l.row l.value pools layouts fit in
-    let refused = c.refused-then-is-full in
+    let refused = c.refused-then-is_full in
     record {
       held = refused_set d refused.new.self c.args.pool c.args.layout out_of_pool refused.result refused.ensures.marked refused.ensures.fault answer (or_last d.mark ∙ ap (λ a. d.mark || a || sets_mark (Err out_of_pool)) (sym valid));
       one = refused.ensures.marked.last ∙ ap (last_after d.last) (sym answer);
@@ -36,7 +36,7 @@ invariant-of-self-in-Ok-2 c =
     let next = placed_next d n place placed in (
       given_later d.holdings.layouts d.holdings.layouts (omega (arith, next.0)) d.layouts,
       (
-        given_change d.holdings.pools c.change.new.self p.row c.with-set.result c.change.ensures (given_later d.holdings.pools d.holdings.pools (omega (arith, next.0)) d.pools),
+        given_change d.holdings.pools c.change.new.self p.row c.with_set.result c.change.ensures (given_later d.holdings.pools d.holdings.pools (omega (arith, next.0)) d.pools),
         (
           placed_given d n place placed c.args.pool l.row c.put.new.self c.put.result c.put.ensures.answer c.put.ensures.rows c.make.new.self c.make.result c.make.ensures c.total-total.ensures.is,
           (
@@ -54,11 +54,11 @@ returns-in-Ok c =
     let l = c.in-Some-find.l in
     let pools = c.in-Some.ensures in
     let layouts = c.in-Some-find.ensures in
-    let fit = c.if-is-unfit.ensures in
+    let fit = c.if-is_unfit.ensures in
     let n = c.total-total.result in
     let place = c.in-Ok.place in
     let placed = c.in-Ok.ensures in
-    let answer = answer_fixed d d.word c.args.pool c.args.layout p.value p.row l.row l.value pools layouts fit (sym c.if-is-full.ensures) in
+    let answer = answer_fixed d d.word c.args.pool c.args.layout p.value p.row l.row l.value pools layouts fit (sym c.if-is_full.ensures) in
     let given = answer ∙ (ap (fixed_set d) (sym c.total-total.ensures.is) ∙ placed.fixed) in
     let valid = valid_set d d.word c.args.pool c.args.layout p.value p.row l.row l.value pools layouts fit in
     let bindings = bindings_there d d.word c.args.pool c.args.layout p.value p.row l.row l.value pools layouts fit in
@@ -67,7 +67,7 @@ returns-in-Ok c =
           record {
             answer = ap (answered Set) (sym given);
             layouts = refl;
-            pools = remembers d d.word c.args.pool c.args.layout p.value p.row l.row l.value pools layouts fit c.with-set.result c.counts-counts.result c.change.new.self (sym c.if-is-full.ensures) c.counts-counts.ensures c.with-set.ensures c.change.ensures;
+            pools = remembers d d.word c.args.pool c.args.layout p.value p.row l.row l.value pools layouts fit c.with_set.result c.counts-counts.result c.change.new.self (sym c.if-is_full.ensures) c.counts-counts.ensures c.with_set.ensures c.change.ensures;
             sets =
                 placed_sets d n place placed c.args.pool l.row c.put.new.self c.put.result c.put.ensures.answer c.put.ensures.rows c.make.new.self c.make.result c.make.ensures c.total-total.ensures.is
                 ∙ ap (λ bs. update eqb (sets_of d.holdings d.records) place.handle (Some (new_set c.args.pool bs))) (sym bindings);
@@ -83,8 +83,8 @@ returns-in-Err c =
     let l = c.in-Some-find.l in
     let pools = c.in-Some.ensures in
     let layouts = c.in-Some-find.ensures in
-    let fit = c.if-is-unfit.ensures in
-    let answer = answer_fixed d d.word c.args.pool c.args.layout p.value p.row l.row l.value pools layouts fit (sym c.if-is-full.ensures) in
+    let fit = c.if-is_unfit.ensures in
+    let answer = answer_fixed d d.word c.args.pool c.args.layout p.value p.row l.row l.value pools layouts fit (sym c.if-is_full.ensures) in
     let valid = valid_set d d.word c.args.pool c.args.layout p.value p.row l.row l.value pools layouts fit in
     let refused = answer ∙ (ap (fixed_set d) (sym c.total-total.ensures.is) ∙ c.in-Err.ensures) in
     let back : to_z w32 (of_z w32 c.in-Err.result) ≡ c.in-Err.result = search rules in

@@ -15,8 +15,8 @@ invariant-of-self c =
     let given = placed_given d c.args.bindings.now c.in-Ok.field-0 c.in-Ok.ensures c.args.flags c.put.new.self c.put.result c.put.ensures.answer c.put.ensures.rows in
     ((d.holdings.whole, tt), (given.0, (given.1.0, (given.1.1, (d.sized, ((placed_next d c.args.bindings.now c.in-Ok.field-0 c.in-Ok.ensures).1, tt))))))
 
-pub offset-bounds-self-place : goal.offset-bounds-self-place
-offset-bounds-self-place c = let lt = free_below c.args.self.now.holdings c.in-Ok.field-0.place.row c.in-Ok.ensures.row in omega (arith, lt)
+pub offset_bounds-self-place : goal.offset_bounds-self-place
+offset_bounds-self-place c = let lt = free_below c.args.self.now.holdings c.in-Ok.field-0.place.row c.in-Ok.ensures.row in omega (arith, lt)
 
 pub bounds-self-place : goal.bounds-self-place
 bounds-self-place c = free_below c.args.self.now.holdings c.in-Ok.field-0.place.row c.in-Ok.ensures.row
@@ -37,7 +37,7 @@ returns-in-Ok c =
     let bs = c.args.bindings.now in
     let p = c.in-Ok.field-0 in
     let placed = c.in-Ok.ensures in
-    let valid = sym c.if-is-invalid-layout.ensures in
+    let valid = sym c.if-is_invalid_layout.ensures in
     let answer = placed_answer d bs p placed c.args.flags valid in
     record {
       held =

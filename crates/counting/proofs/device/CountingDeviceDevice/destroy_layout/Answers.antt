@@ -14,7 +14,7 @@ returns-in-Some c =
     record {
       held =
           record {
-            layouts = layouts_clear d.holdings.bindings d.holdings.layouts c.clear.new.self c.in-Some.row c.args.layout (sym c.row-of.ensures ∙ c.in-Some.is) c.clear.ensures;
+            layouts = layouts_clear d.holdings.bindings d.holdings.layouts c.clear.new.self c.in-Some.row c.args.layout (sym c.row_of.ensures ∙ c.in-Some.is) c.clear.ensures;
             pools = refl;
             sets = refl;
             mark = refl;

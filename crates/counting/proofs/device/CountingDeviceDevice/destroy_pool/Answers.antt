@@ -11,16 +11,16 @@ use Rattle.counting.proofs.device.CountingDeviceDevice.destroy_pool.Goals as goa
 
 pub invariant-of-self : goal.invariant-of-self
 invariant-of-self c =
-    let e = c.remove-sets-of.new.self in
+    let e = c.remove_sets_of.new.self in
     ((e.holdings.whole, tt), (e.layouts, (given_clear e.holdings.pools c.clear.new.self c.in-Some.row c.clear.ensures e.pools, (e.sets, (e.sized, (e.word, tt))))))
 
 pub returns-in-Some : goal.returns-in-Some
 returns-in-Some c =
     let d = c.args.self.now in
-    let e = c.remove-sets-of.new.self in
+    let e = c.remove_sets_of.new.self in
     let p = c.args.pool in
-    let gone = c.remove-sets-of.ensures in
-    let row = sym c.row-of.ensures ∙ c.in-Some.is in
+    let gone = c.remove_sets_of.ensures in
+    let row = sym c.row_of.ensures ∙ c.in-Some.is in
     let lives = pool_lives d.holdings p c.in-Some.row row in
     record {
       held =

@@ -7,10 +7,10 @@ use Rattle.counting.proofs.device.CountingDeviceDevice.free_set.Goals as goal
 pub returns-in-Some : goal.returns-in-Some
 returns-in-Some c =
     let d = c.args.self.now in
-    let e = c.remove-set.new.self in
+    let e = c.remove_set.new.self in
     let found = c.in-Some.found in
     let is = c.in-Some.ensures in
-    let gone = c.remove-set.ensures in
+    let gone = c.remove_set.ensures in
     record {
       held =
           record {

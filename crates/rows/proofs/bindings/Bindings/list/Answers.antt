@@ -2,8 +2,8 @@ use Rattle.std.proofs.Common.{◌≡◌, ◌≤◌, length, take, sym, ◌∙◌
 use Rattle.std.proofs.lemmas.List.{take_all}
 use Rattle.rows.proofs.bindings.Bindings.list.Goals as goal
 
-pub returns-else-n-lt-MAX-BINDINGS : goal.returns-else-n-lt-MAX-BINDINGS
-returns-else-n-lt-MAX-BINDINGS c =
+pub returns-else-n-lt-MAX_BINDINGS : goal.returns-else-n-lt-MAX_BINDINGS
+returns-else-n-lt-MAX_BINDINGS c =
     let rows = c.args.self.now.rows in
     let long : length rows ≡ 32 = omega arith in
     let all : take 32 rows ≡ rows = take_all 32 rows (omega arith) in

@@ -12,7 +12,7 @@ pub loop-i-preserved : goal.loop-i-preserved
 loop-i-preserved c =
     let more = below_next c.loop-i.i (λ i. in_row c.args.pool (λ s. 1) (set_at c.args.self.now i)) in
     let one = one_at_most c.args.pool (set_at c.args.self.now c.loop-i.i) in
-    (omega (arith, more, c.set-in-sum.ensures, c.loop-i.invariant.0), omega (arith, one, c.set-in-sum.ensures, c.loop-i.invariant.1))
+    (omega (arith, more, c.set_in-sum.ensures, c.loop-i.invariant.0), omega (arith, one, c.set_in-sum.ensures, c.loop-i.invariant.1))
 
 pub returns : goal.returns
 returns c =

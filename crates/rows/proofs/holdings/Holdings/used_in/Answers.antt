@@ -11,7 +11,7 @@ loop-i-init c = (sym (below_start (λ i. in_row c.args.pool (λ s. kind_count c.
 pub loop-i-preserved : goal.loop-i-preserved
 loop-i-preserved c =
     let more = below_next c.loop-i.i (λ i. in_row c.args.pool (λ s. kind_count c.args.kind s.bindings) (set_at c.args.self.now i)) in
-    (omega (arith, more, c.used-by-sum.ensures.is, c.loop-i.invariant.0), omega (arith, c.used-by-sum.ensures.small, c.loop-i.invariant.1))
+    (omega (arith, more, c.used_by-sum.ensures.is, c.loop-i.invariant.0), omega (arith, c.used_by-sum.ensures.small, c.loop-i.invariant.1))
 
 pub returns : goal.returns
 returns c =

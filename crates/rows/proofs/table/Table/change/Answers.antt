@@ -7,13 +7,13 @@ pub invariant-of-self : goal.invariant-of-self
 invariant-of-self g c =
     let t = c.args.self.now in
     let i = c.args.i in
-    let y = c.with-value.result in (
+    let y = c.with_value.result in (
       set_whole t.rows i g.row.N y t.whole,
-      (same_apart (changed_is t.rows i c.args.value c.index-self-i.result y (omega arith) c.with-value.ensures) (change_apart (slot_at t) i c.args.value t.differ), tt),
+      (same_apart (changed_is t.rows i c.args.value c.index-self-i.result y (omega arith) c.with_value.ensures) (change_apart (slot_at t) i c.args.value t.differ), tt),
     )
 
 pub returns-then-i : goal.returns-then-i
-returns-then-i g c = changed_is c.args.self.now.rows c.args.i c.args.value c.index-self-i.result c.with-value.result (omega arith) c.with-value.ensures
+returns-then-i g c = changed_is c.args.self.now.rows c.args.i c.args.value c.index-self-i.result c.with_value.result (omega arith) c.with_value.ensures
 
 pub returns-else-i : goal.returns-else-i
 returns-else-i g c = changed_past c.args.self.now.rows c.args.i c.args.value (omega (arith, c.args.self.now.whole))

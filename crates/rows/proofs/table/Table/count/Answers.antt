@@ -11,7 +11,7 @@ loop-i-init g c = (sym (below_start (λ i. one_if_used (slot_at c.args.self.now 
 pub loop-i-preserved : goal.loop-i-preserved
 loop-i-preserved g c =
     let more = below_next c.loop-i.i (λ i. one_if_used (slot_at c.args.self.now i)) in
-    let here = c.one-if-used-sum.ensures ∙ ap one_if_used c.slot.ensures in
+    let here = c.one_if_used-sum.ensures ∙ ap one_if_used c.slot.ensures in
     let one = used_at_most (slot_at c.args.self.now c.loop-i.i) in
     (omega (arith, more, here, c.loop-i.invariant.0), omega (arith, one, here, c.loop-i.invariant.1))
 
