@@ -1,6 +1,5 @@
 -- Descriptors counted by kind. Assumes nothing.
-use Rattle.std.specs.Prelude.{ℕ, Bool, sum_by, nat_eq}
-use Rattle.std.specs.Ordering.{on, eq_of_both}
+use Rattle.std.specs.Prelude.{ℕ, sum_by}
 use Rattle.conversion.specs.Kinds.{kinds}
 use Rattle.conversion.specs.declared.kinds.Kind.{Kind}
 use Rattle.conversion.specs.declared.kinds.Kind.TheVariants.{Sampler, SampledImage, StorageImage, UniformBuffer, UniformBufferDynamic, StorageBuffer, StorageBufferDynamic, AccelerationStructure}
@@ -24,7 +23,3 @@ count_of c AccelerationStructure = c.acceleration_structure
 -- all eight together
 abbrev pub total : DescriptorCounts → ℕ
 total c = sum_by (count_of c) kinds
-
--- whether two counts are the same, kind by kind
-abbrev pub counts_eq : DescriptorCounts → DescriptorCounts → Bool
-counts_eq = eq_of_both (on (λ v. v.sampler) nat_eq) (eq_of_both (on (λ v. v.sampled_image) nat_eq) (eq_of_both (on (λ v. v.storage_image) nat_eq) (eq_of_both (on (λ v. v.uniform_buffer) nat_eq) (eq_of_both (on (λ v. v.uniform_buffer_dynamic) nat_eq) (eq_of_both (on (λ v. v.storage_buffer) nat_eq) (eq_of_both (on (λ v. v.storage_buffer_dynamic) nat_eq) (on (λ v. v.acceleration_structure) nat_eq)))))))

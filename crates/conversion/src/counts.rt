@@ -1,8 +1,8 @@
 // Descriptors counted by kind, and the key of a bucket.
-ghost use Rattle.std.specs.Prelude.{◌≡◌, ◌+◌, ◌^◌, ◌<◌, Decides, ◌&&◌};
+ghost use Rattle.std.specs.Prelude.{◌≡◌, ◌+◌, ◌^◌, ◌<◌, Decides, nat_eq};
 ghost use Rattle.std.specs.Ordering.{on, eq_of_both};
 ghost use Rattle.std.proofs.Math.Bool.{beq};
-ghost use Rattle.conversion.specs.Counts.{count_of, counts_eq, total};
+ghost use Rattle.conversion.specs.Counts.{count_of, total};
 ghost use Rattle.conversion.specs.Layouts.{entry_count, counting};
 ghost use Rattle.std.specs.Cmp.Rules.{comparing};
 ghost use Rattle.std.proofs.Common.{rules};
@@ -24,13 +24,12 @@ pub struct DescriptorCounts {
 }
 
 impl PartialEq for DescriptorCounts {
-    ghost eq = { counts_eq };
+    ghost eq = { eq_of_both (on (λ v. v.sampler) nat_eq) (eq_of_both (on (λ v. v.sampled_image) nat_eq) (eq_of_both (on (λ v. v.storage_image) nat_eq) (eq_of_both (on (λ v. v.uniform_buffer) nat_eq) (eq_of_both (on (λ v. v.uniform_buffer_dynamic) nat_eq) (eq_of_both (on (λ v. v.storage_buffer) nat_eq) (eq_of_both (on (λ v. v.storage_buffer_dynamic) nat_eq) (on (λ v. v.acceleration_structure) nat_eq))))))) };
 
-    ghost laws = { Prim.search (comparing, rules) };
+    ghost laws = { Prim.search (comparing, rules) depth 40 };
 
     fn eq(&self, other: &DescriptorCounts) -> bool
-        ensures gives { result ≡ counts_eq self.now other.now }
-        ensures same { Decides result (self.now ≡ other.now) }
+        ensures { Decides result (self.now ≡ other.now) }
     {
         self.sampler == other.sampler
             && self.sampled_image == other.sampled_image
@@ -51,13 +50,12 @@ pub struct BucketKey {
 }
 
 impl PartialEq for BucketKey {
-    ghost eq = { eq_of_both (on (λ v. v.counts) counts_eq) (on (λ v. v.arrays) beq) };
+    ghost eq = { eq_of_both (on (λ v. v.counts) (eq_of_both (on (λ v. v.sampler) nat_eq) (eq_of_both (on (λ v. v.sampled_image) nat_eq) (eq_of_both (on (λ v. v.storage_image) nat_eq) (eq_of_both (on (λ v. v.uniform_buffer) nat_eq) (eq_of_both (on (λ v. v.uniform_buffer_dynamic) nat_eq) (eq_of_both (on (λ v. v.storage_buffer) nat_eq) (eq_of_both (on (λ v. v.storage_buffer_dynamic) nat_eq) (on (λ v. v.acceleration_structure) nat_eq))))))))) (on (λ v. v.arrays) beq) };
 
-    ghost laws = { Prim.search (comparing, rules) };
+    ghost laws = { Prim.search (comparing, rules) depth 40 };
 
     fn eq(&self, other: &BucketKey) -> bool
-        ensures gives { result ≡ (counts_eq self.now.counts other.now.counts && beq self.now.arrays other.now.arrays) }
-        ensures same { Decides result (self.now ≡ other.now) }
+        ensures { Decides result (self.now ≡ other.now) }
     {
         self.counts == other.counts && self.arrays == other.arrays
     }
