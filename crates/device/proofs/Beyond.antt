@@ -3,17 +3,17 @@ use Rattle.std.proofs.Common.{◌≡◌, ℕ, ◌+◌, ◌≤◌, length, Some, 
 use Rattle.std.specs.Option.{option_map}
 use Rattle.conversion.specs.declared.kinds.Kind.{Kind}
 use Rattle.device.specs.declared.records.Write.{Write}
-use Rattle.device.specs.declared.records.Content.TheVariants.{Image, Buffer, Acceleration}
 use Rattle.device.specs.declared.records.RecordList.{RecordList}
 use Rattle.device.specs.declared.records.RecordList.TheVariants.{Images, Buffers, Accelerations}
+use Rattle.device.specs.Meaning.{image, buffer, acceleration}
 use Rattle.device.specs.Writes.{Lists, records_of, content_at, descriptor, descriptor_of}
 use Rattle.device.proofs.Nths.{nth_past}
 
 module _ (l : Lists) (i : ℕ) (a : length l.images ≤ i) (b : length l.buffers ≤ i) (c : length l.accelerations ≤ i) where
   no_content : (r : RecordList) → None ≡ content_at l r i
-  no_content Images = ap (option_map Image) (nth_past l.images i a)
-  no_content Buffers = ap (option_map Buffer) (nth_past l.buffers i b)
-  no_content Accelerations = ap (option_map Acceleration) (nth_past l.accelerations i c)
+  no_content Images = ap (option_map image) (nth_past l.images i a)
+  no_content Buffers = ap (option_map buffer) (nth_past l.buffers i b)
+  no_content Accelerations = ap (option_map acceleration) (nth_past l.accelerations i c)
 
 pub no_descriptor : (l : Lists) (w : Write) (i : ℕ) (o : Option Kind) → length l.images ≤ w.start + i → length l.buffers ≤ w.start + i → length l.accelerations ≤ w.start + i → None ≡ descriptor_of l w i o
 no_descriptor l w i None a b c = refl

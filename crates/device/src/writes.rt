@@ -1,7 +1,9 @@
 // One write: whether it is valid, and what it puts where.
 ghost use Rattle.std.specs.Prelude.{◌≡◌, ◌+◌, nat_le};
 ghost use Rattle.std.specs.List.{slice_get};
+ghost use Rattle.std.specs.Option.{option_map};
 ghost use Rattle.conversion.specs.Kinds.{kind_of_type};
+ghost use Rattle.device.specs.Stored.{said, described};
 ghost use Rattle.device.specs.Writes.{lists_of, length_of, content_at, lies, fits, valid_for, descriptor_of};
 
 use crate::records::{
@@ -39,7 +41,7 @@ fn content_at(
     buffers: &[BufferRecord],
     accelerations: &[AccelerationRecord],
 ) -> Option<Content>
-    ensures { result ≡ content_at (lists_of images.now buffers.now accelerations.now) list i }
+    ensures { option_map said result ≡ content_at (lists_of images.now buffers.now accelerations.now) list i }
 {
     match list {
         RecordList::Images => Some(Content::Image(element(images, i)?)),
@@ -108,7 +110,7 @@ pub fn descriptor_of(
     buffers: &[BufferRecord],
     accelerations: &[AccelerationRecord],
 ) -> Option<Descriptor>
-    ensures { result ≡ descriptor_of (lists_of images.now buffers.now accelerations.now) write.now i (kind_of_type write.now.descriptor_type) }
+    ensures { option_map described result ≡ descriptor_of (lists_of images.now buffers.now accelerations.now) write.now i (kind_of_type write.now.descriptor_type) }
 {
     let kind = Kind::of_type(write.descriptor_type)?;
     let place = write.start.checked_add(i)?;
