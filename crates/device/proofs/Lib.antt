@@ -3,4 +3,3 @@ pub mod Below
 pub mod Counted
 pub mod Ordered
 pub mod Nths
-pub mod Beyond

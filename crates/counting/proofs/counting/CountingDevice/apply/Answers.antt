@@ -28,8 +28,8 @@ returns-then-not-is_valid_write c =
     let invalid = valid_is d d.records w l set.row set.value is.0 is.1 ∙ (ap (valid_for l w) (sym c.binding-there.ensures) ∙ sym c.if-not-is_valid_write.ensures) in
     record { holdings = refl; last = refl; size = refl; sets = none_changed l w sets invalid; mark = marked d.mark (valid l w sets) invalid }
 
-pub invariant-of-self-2 : goal.invariant-of-self-2
-invariant-of-self-2 c =
+pub invariant_of-self-2 : goal.invariant_of-self-2
+invariant_of-self-2 c =
     let d = c.args.self.now in
     (d.layouts, (d.pools, (d.sets, ((λ i. ap (λ f. f i) c.fill.ensures.lengths ∙ d.sized i), (d.word, tt)))))
 

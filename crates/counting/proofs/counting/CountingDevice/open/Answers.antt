@@ -6,8 +6,8 @@ use Rattle.counting.specs.Counting.{live_in}
 use Rattle.counting.proofs.Opening.{empty_row, empty_given, empty_found}
 use Rattle.counting.proofs.counting.CountingDevice.open.Goals as goal
 
-pub invariant-of-result : goal.invariant-of-result
-invariant-of-result c =
+pub invariant_of-result : goal.invariant_of-result
+invariant_of-result c =
     let h = c.new-2.result in
     let new = c.new-2.ensures in (
       empty_given h.layouts new.layouts,

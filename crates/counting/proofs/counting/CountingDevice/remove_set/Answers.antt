@@ -3,8 +3,8 @@ use Rattle.counting.specs.Kept.{given_clear}
 use Rattle.counting.proofs.Places.{sized_changed}
 use Rattle.counting.proofs.counting.CountingDevice.remove_set.Goals as goal
 
-pub invariant-of-self-2 : goal.invariant-of-self-2
-invariant-of-self-2 c =
+pub invariant_of-self-2 : goal.invariant_of-self-2
+invariant_of-self-2 c =
     let d = c.args.self.now in (
       d.layouts,
       (

@@ -25,8 +25,8 @@ returns-then-is_full c =
       one = refused.ensures.marked.last ∙ ap (last_after d.last) (sym answer);
     }
 
-pub invariant-of-self-in-Ok-2 : goal.invariant-of-self-in-Ok-2
-invariant-of-self-in-Ok-2 c =
+pub invariant_of-self-in-Ok-2 : goal.invariant_of-self-in-Ok-2
+invariant_of-self-in-Ok-2 c =
     let d = c.args.self.now in
     let p = c.in-Some.p in
     let l = c.in-Some-find.l in

@@ -9,8 +9,8 @@ use Rattle.rows.proofs.Truths.{or_false}
 use Rattle.counting.proofs.Layouts.{placed_next, placed_answer, placed_given, placed_held, placed_sets}
 use Rattle.counting.proofs.device.CountingDeviceDevice.create_layout.Goals as goal
 
-pub invariant-of-self : goal.invariant-of-self
-invariant-of-self c =
+pub invariant_of-self : goal.invariant_of-self
+invariant_of-self c =
     let d = c.args.self.now in
     let given = placed_given d c.args.bindings.now c.in-Ok.field-0 c.in-Ok.ensures c.args.flags c.put.new.self c.put.result c.put.ensures.answer c.put.ensures.rows in
     ((d.holdings.whole, tt), (given.0, (given.1.0, (given.1.1, (d.sized, ((placed_next d c.args.bindings.now c.in-Ok.field-0 c.in-Ok.ensures).1, tt))))))
@@ -21,8 +21,8 @@ offset_bounds-self-place c = let lt = free_below c.args.self.now.holdings c.in-O
 pub bounds-self-place : goal.bounds-self-place
 bounds-self-place c = free_below c.args.self.now.holdings c.in-Ok.field-0.place.row c.in-Ok.ensures.row
 
-pub invariant-of-self-in-Ok : goal.invariant-of-self-in-Ok
-invariant-of-self-in-Ok c =
+pub invariant_of-self-in-Ok : goal.invariant_of-self-in-Ok
+invariant_of-self-in-Ok c =
     let d = c.args.self.now in
     let p = c.in-Ok.field-0 in
     let placed = c.in-Ok.ensures in

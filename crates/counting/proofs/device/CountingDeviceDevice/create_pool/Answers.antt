@@ -10,8 +10,8 @@ use Rattle.rows.proofs.Truths.{or_false}
 use Rattle.counting.proofs.Pools.{made_row, placed_next, placed_answer, placed_given, placed_held}
 use Rattle.counting.proofs.device.CountingDeviceDevice.create_pool.Goals as goal
 
-pub invariant-of-self : goal.invariant-of-self
-invariant-of-self c =
+pub invariant_of-self : goal.invariant_of-self
+invariant_of-self c =
     let d = c.args.self.now in
     let given = placed_given d c.in-Ok.place c.in-Ok.ensures c.in-Some.pool c.put.new.self c.put.result c.put.ensures.answer c.put.ensures.rows in
     ((d.holdings.whole, tt), (given.0, (given.1, (given.2, (d.sized, ((placed_next d c.in-Ok.place c.in-Ok.ensures).1, tt))))))

@@ -3,8 +3,8 @@ use Rattle.counting.specs.Kept.{given_clear}
 use Rattle.counting.proofs.Made.{layouts_clear}
 use Rattle.counting.proofs.device.CountingDeviceDevice.destroy_layout.Goals as goal
 
-pub invariant-of-self : goal.invariant-of-self
-invariant-of-self c =
+pub invariant_of-self : goal.invariant_of-self
+invariant_of-self c =
     let d = c.args.self.now in
     ((d.holdings.whole, tt), (given_clear d.holdings.layouts c.clear.new.self c.in-Some.row c.clear.ensures d.layouts, (d.pools, (d.sets, (d.sized, (d.word, tt))))))
 

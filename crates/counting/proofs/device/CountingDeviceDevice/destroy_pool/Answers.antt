@@ -9,8 +9,8 @@ use Rattle.counting.proofs.Made.{pools_clear}
 use Rattle.counting.proofs.Places.{outside_sets, same_layouts, same_pools, pool_lives}
 use Rattle.counting.proofs.device.CountingDeviceDevice.destroy_pool.Goals as goal
 
-pub invariant-of-self : goal.invariant-of-self
-invariant-of-self c =
+pub invariant_of-self : goal.invariant_of-self
+invariant_of-self c =
     let e = c.remove_sets_of.new.self in
     ((e.holdings.whole, tt), (e.layouts, (given_clear e.holdings.pools c.clear.new.self c.in-Some.row c.clear.ensures e.pools, (e.sets, (e.sized, (e.word, tt))))))
 

@@ -3,8 +3,8 @@ use Rattle.rows.proofs.Found.{changed_is, changed_past, set_whole, change_apart,
 use Rattle.rows.specs.Tables.{slot_at}
 use Rattle.rows.proofs.table.Table.change.Goals as goal
 
-pub invariant-of-self : goal.invariant-of-self
-invariant-of-self g c =
+pub invariant_of-self : goal.invariant_of-self
+invariant_of-self g c =
     let t = c.args.self.now in
     let i = c.args.i in
     let y = c.with_value.result in (

@@ -3,8 +3,8 @@ use Rattle.rows.proofs.Found.{set_is, set_past, set_whole, clear_apart, same_apa
 use Rattle.rows.specs.Tables.{slot_at}
 use Rattle.rows.proofs.table.Table.clear.Goals as goal
 
-pub invariant-of-self : goal.invariant-of-self
-invariant-of-self g c = (
+pub invariant_of-self : goal.invariant_of-self
+invariant_of-self g c = (
   set_whole c.args.self.now.rows c.args.i g.row.N None c.args.self.now.whole,
   (same_apart (set_is c.args.self.now.rows c.args.i None (omega arith)) (clear_apart (slot_at c.args.self.now) c.args.i c.args.self.now.differ), tt),
 )

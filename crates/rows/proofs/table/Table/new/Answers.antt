@@ -3,5 +3,5 @@ use Rattle.std.proofs.Common.{None}
 use Rattle.rows.proofs.Found.{none_apart}
 use Rattle.rows.proofs.table.Table.new.Goals as goal
 
-pub invariant-of-result : goal.invariant-of-result
-invariant-of-result g c = (length-replicate g.row.N None, (none_apart _ g.row.N, tt))
+pub invariant_of-result : goal.invariant_of-result
+invariant_of-result g c = (length-replicate g.row.N None, (none_apart _ g.row.N, tt))

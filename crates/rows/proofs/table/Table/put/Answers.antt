@@ -3,8 +3,8 @@ use Rattle.rows.proofs.Found.{set_is, set_whole, put_apart, put_below, put_unuse
 use Rattle.rows.specs.Tables.{slot, slot_at}
 use Rattle.rows.proofs.table.Table.put.Goals as goal
 
-pub invariant-of-self : goal.invariant-of-self
-invariant-of-self g c =
+pub invariant_of-self : goal.invariant_of-self
+invariant_of-self g c =
     let t = c.args.self.now in
     let i = c.args.i in
     let h = c.args.handle in
