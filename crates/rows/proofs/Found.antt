@@ -11,7 +11,7 @@ use Rattle.conversion.specs.Lists.{first}
 use Rattle.conversion.proofs.Searches.{first_none, first_fewer, first_at, all_false}
 use Rattle.rows.specs.declared.slots.Slot.{Slot}
 use Rattle.rows.specs.Slots.{first_row, is_handle, share, Differ}
-use Rattle.rows.proofs.Truths.{and_three, nothing}
+use Rattle.rows.proofs.Truths.{met_at, and_three, nothing}
 use Rattle.rows.specs.declared.table.Table.{Table}
 use Rattle.rows.specs.Tables.{slot, slot_at, one_if_used, row_of, can_put, changed}
 
@@ -61,9 +61,9 @@ row_same f g n e = ap (λ t. first_row t n) (fun_ext e)
 
 -- a row that is set
 pub set_is : {X : Type 0} (rows : List (Option X)) (i : ℕ) (x : Option X) → i < length rows → (λ k. get_or (set rows i x) k None) ≡ update eqb (λ k. get_or rows k None) i x
-set_is rows i x lt = fun_ext (λ k. by k (eqb_tells k i))
+set_is rows i x lt = fun_ext (λ k. by k (met_at k i))
   where
-    by : (k : ℕ) → ((eqb k i ≡ true) × (k ≡ i)) ⊎ ((eqb k i ≡ false) × (k ≡ i → ⊥)) → get_or (set rows i x) k None ≡ update eqb (λ j. get_or rows j None) i x k
+    by : (k : ℕ) → ((eqb i k ≡ true) × (k ≡ i)) ⊎ ((eqb i k ≡ false) × (k ≡ i → ⊥)) → get_or (set rows i x) k None ≡ update eqb (λ j. get_or rows j None) i x k
     by k (inl (b, e)) = rw (b, e) (get_or-set_same rows i x None lt)
     by k (inr (b, ne)) = rw b (get_or-set_other rows i k x None ne)
 
@@ -72,9 +72,9 @@ set_whole rows i n x e = length-set rows i x ∙ e
 
 -- and past the last row
 pub set_past : {X : Type 0} (rows : List (Option X)) (i : ℕ) → length rows ≤ i → (λ k. get_or rows k None) ≡ update eqb (λ k. get_or rows k None) i None
-set_past rows i le = fun_ext (λ k. by k (eqb_tells k i))
+set_past rows i le = fun_ext (λ k. by k (met_at k i))
   where
-    by : (k : ℕ) → ((eqb k i ≡ true) × (k ≡ i)) ⊎ ((eqb k i ≡ false) × (k ≡ i → ⊥)) → get_or rows k None ≡ update eqb (λ j. get_or rows j None) i None k
+    by : (k : ℕ) → ((eqb i k ≡ true) × (k ≡ i)) ⊎ ((eqb i k ≡ false) × (k ≡ i → ⊥)) → get_or rows k None ≡ update eqb (λ j. get_or rows j None) i None k
     by k (inl (b, e)) = rw (b, e) (get_or_past rows i None le)
     by k (inr (b, ne)) = rw b refl
 
@@ -129,9 +129,9 @@ module _ {T : Type 0} where
   -- a row that is put, with a handle that stands in no row
   module _ (rows : ℕ → Option (Slot T)) (n i h : ℕ) (x : T) (lt : i < n) (unused : rows i ≡ None) (fresh : (k : ℕ) → is_handle h (rows k) ≡ false) where
     at_put : (k a : ℕ) → is_handle k (update eqb rows i (Some (slot h x)) a) ≡ true → ((a ≡ i) × (h ≡ k)) ⊎ (is_handle k (rows a) ≡ true)
-    at_put k a e = by (eqb_tells a i) (eqb_tells h k)
+    at_put k a e = by (met_at a i) (eqb_tells h k)
       where
-        by : ((eqb a i ≡ true) × (a ≡ i)) ⊎ ((eqb a i ≡ false) × (a ≡ i → ⊥)) → ((eqb h k ≡ true) × (h ≡ k)) ⊎ ((eqb h k ≡ false) × (h ≡ k → ⊥)) → ((a ≡ i) × (h ≡ k)) ⊎ (is_handle k (rows a) ≡ true)
+        by : ((eqb i a ≡ true) × (a ≡ i)) ⊎ ((eqb i a ≡ false) × (a ≡ i → ⊥)) → ((eqb h k ≡ true) × (h ≡ k)) ⊎ ((eqb h k ≡ false) × (h ≡ k → ⊥)) → ((a ≡ i) × (h ≡ k)) ⊎ (is_handle k (rows a) ≡ true)
         by (inl (p, p')) (inl (q, q')) = inl (p', q')
         by (inl (p, p')) (inr (q, q')) = let z : ◌≡◌ {A = Bool} true false = sym (rw p at e) ∙ q in absurd (let y : ◌≡◌ {A = ℕ} 0 1 = cc in omega arith)
         by (inr (p, p')) _ = inr (rw p at e)
@@ -151,25 +151,25 @@ module _ {T : Type 0} where
         by k (inr p) (inr q) = apart a b (is_shared k (rows a) (rows b) p q)
 
     pub put_found : Apart rows → (λ q. found (update eqb rows i (Some (slot h x))) n q) ≡ update eqb (λ q. found rows n q) h (Some i)
-    put_found apart = fun_ext (λ q. by q (eqb_tells q h))
+    put_found apart = fun_ext (λ q. by q (met_at q h))
       where
-        same : (q : ℕ) → (q ≡ h → ⊥) → (k : ℕ) → ((eqb k i ≡ true) × (k ≡ i)) ⊎ ((eqb k i ≡ false) × (k ≡ i → ⊥)) → ((eqb h q ≡ true) × (h ≡ q)) ⊎ ((eqb h q ≡ false) × (h ≡ q → ⊥)) → is_handle q (update eqb rows i (Some (slot h x)) k) ≡ is_handle q (rows k)
+        same : (q : ℕ) → (q ≡ h → ⊥) → (k : ℕ) → ((eqb i k ≡ true) × (k ≡ i)) ⊎ ((eqb i k ≡ false) × (k ≡ i → ⊥)) → ((eqb h q ≡ true) × (h ≡ q)) ⊎ ((eqb h q ≡ false) × (h ≡ q → ⊥)) → is_handle q (update eqb rows i (Some (slot h x)) k) ≡ is_handle q (rows k)
         same q ne k (inl (p, p')) (inl (r, r')) = absurd (ne (sym r'))
         same q ne k (inl (p, p')) (inr (r, r')) = rw (p, p', unused) r
         same q ne k (inr (p, p')) _ = rw p refl
 
-        by : (q : ℕ) → ((eqb q h ≡ true) × (q ≡ h)) ⊎ ((eqb q h ≡ false) × (q ≡ h → ⊥)) → found (update eqb rows i (Some (slot h x))) n q ≡ update eqb (λ q. found rows n q) h (Some i) q
+        by : (q : ℕ) → ((eqb h q ≡ true) × (q ≡ h)) ⊎ ((eqb h q ≡ false) × (q ≡ h → ⊥)) → found (update eqb rows i (Some (slot h x))) n q ≡ update eqb (λ q. found rows n q) h (Some i) q
         by q (inl (b, e)) =
             let here : is_handle q (update eqb rows i (Some (slot h x)) i) ≡ true = grind (arith, nat_tests) in
             rw b (row_found (update eqb rows i (Some (slot h x))) n i q (put_apart apart) lt here)
-        by q (inr (b, ne)) = rw b (row_same (λ k. is_handle q (update eqb rows i (Some (slot h x)) k)) (λ k. is_handle q (rows k)) n (λ k. same q ne k (eqb_tells k i) (eqb_tells h q)))
+        by q (inr (b, ne)) = rw b (row_same (λ k. is_handle q (update eqb rows i (Some (slot h x)) k)) (λ k. is_handle q (rows k)) n (λ k. same q ne k (met_at k i) (eqb_tells h q)))
 
   -- a row that is cleared
   module _ (rows : ℕ → Option (Slot T)) (i : ℕ) where
     at_cleared : (k a : ℕ) → is_handle k (update eqb rows i None a) ≡ true → (a ≡ i → ⊥) × (is_handle k (rows a) ≡ true)
-    at_cleared k a e = by (eqb_tells a i)
+    at_cleared k a e = by (met_at a i)
       where
-        by : ((eqb a i ≡ true) × (a ≡ i)) ⊎ ((eqb a i ≡ false) × (a ≡ i → ⊥)) → (a ≡ i → ⊥) × (is_handle k (rows a) ≡ true)
+        by : ((eqb i a ≡ true) × (a ≡ i)) ⊎ ((eqb i a ≡ false) × (a ≡ i → ⊥)) → (a ≡ i → ⊥) × (is_handle k (rows a) ≡ true)
         by (inl (p, p')) = let q : ◌≡◌ {A = Bool} false true = rw p at e in absurd (let y : ◌≡◌ {A = ℕ} 0 1 = cc in omega arith)
         by (inr (p, p')) = (p', rw p at e)
 
@@ -179,7 +179,7 @@ module _ {T : Type 0} where
         apart a b (is_shared s.0 (rows a) (rows b) (at_cleared s.0 a s.1).1 (at_cleared s.0 b s.2).1)
 
     pub clear_found : (n h : ℕ) → Apart rows → is_handle h (rows i) ≡ true → (λ q. found (update eqb rows i None) n q) ≡ update eqb (λ q. found rows n q) h None
-    clear_found n h apart here = fun_ext (λ q. by q (eqb_tells q h))
+    clear_found n h apart here = fun_ext (λ q. by q (met_at q h))
       where
         none : (k : ℕ) → is_handle h (update eqb rows i None k) ≡ false
         none k = at (is_handle h (update eqb rows i None k)) refl
@@ -189,22 +189,22 @@ module _ {T : Type 0} where
             at false e = refl
 
         same : (q : ℕ) → (q ≡ h → ⊥) → (k : ℕ) → is_handle q (update eqb rows i None k) ≡ is_handle q (rows k)
-        same q ne k = at (eqb_tells k i) (rows k) refl
+        same q ne k = at (met_at k i) (rows k) refl
           where
-            at : ((eqb k i ≡ true) × (k ≡ i)) ⊎ ((eqb k i ≡ false) × (k ≡ i → ⊥)) → (o : Option (Slot T)) → rows k ≡ o → is_handle q (update eqb rows i None k) ≡ is_handle q o
+            at : ((eqb i k ≡ true) × (k ≡ i)) ⊎ ((eqb i k ≡ false) × (k ≡ i → ⊥)) → (o : Option (Slot T)) → rows k ≡ o → is_handle q (update eqb rows i None k) ≡ is_handle q o
             at (inr (p, p')) o e = rw (p, e) refl
             at (inl (p, p')) None e = rw p refl
             at (inl (p, p')) (Some s) e = let w : is_handle h (Some s) ≡ true = ap (is_handle h) (sym e ∙ ap rows p') ∙ here in rw p (grind (arith, nat_tests))
 
-        by : (q : ℕ) → ((eqb q h ≡ true) × (q ≡ h)) ⊎ ((eqb q h ≡ false) × (q ≡ h → ⊥)) → found (update eqb rows i None) n q ≡ update eqb (λ q. found rows n q) h None q
+        by : (q : ℕ) → ((eqb h q ≡ true) × (q ≡ h)) ⊎ ((eqb h q ≡ false) × (q ≡ h → ⊥)) → found (update eqb rows i None) n q ≡ update eqb (λ q. found rows n q) h None q
         by q (inl (b, e)) = rw (b, e) (no_row (λ k. is_handle h (update eqb rows i None k)) n (λ k l. none k))
         by q (inr (b, ne)) = rw b (row_same (λ k. is_handle q (update eqb rows i None k)) (λ k. is_handle q (rows k)) n (same q ne))
 
   -- a row whose value is changed has its handle still
   pub change_handle : (rows : ℕ → Option (Slot T)) (i : ℕ) (x : T) (h k : ℕ) → is_handle h (changed rows i x k) ≡ is_handle h (rows k)
-  change_handle rows i x h k = by (eqb_tells k i) (rows i) refl
+  change_handle rows i x h k = by (met_at k i) (rows i) refl
     where
-      by : ((eqb k i ≡ true) × (k ≡ i)) ⊎ ((eqb k i ≡ false) × (k ≡ i → ⊥)) → (o : Option (Slot T)) → rows i ≡ o → is_handle h (changed rows i x k) ≡ is_handle h (rows k)
+      by : ((eqb i k ≡ true) × (k ≡ i)) ⊎ ((eqb i k ≡ false) × (k ≡ i → ⊥)) → (o : Option (Slot T)) → rows i ≡ o → is_handle h (changed rows i x k) ≡ is_handle h (rows k)
       by (inr (p, p')) o e = rw p refl
       by (inl (p, p')) None e = rw (p, p', e) refl
       by (inl (p, p')) (Some s) e = rw (p, p', e) refl

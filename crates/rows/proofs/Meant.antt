@@ -11,7 +11,7 @@ use Rattle.rows.specs.declared.table.Table.{Table}
 use Rattle.rows.specs.Slots.{first_row, is_handle, share}
 use Rattle.rows.specs.Tables.{slot, slot_at, row_of, can_put, changed}
 use Rattle.rows.specs.Holdings.{found_by}
-use Rattle.rows.proofs.Truths.{clash}
+use Rattle.rows.proofs.Truths.{met_at, clash}
 use Rattle.rows.proofs.Found.{is_shared, row_some, row_none, row_zero, row_suc, no_row, row_same, row_found, put_found, put_below, put_unused, put_fresh, clear_found, change_found}
 
 -- what a handle finds has it
@@ -46,12 +46,12 @@ module _ {T X : Type 0} {n : ℕ} where
   pub found_put : (t t' : Table T n) (i h : ℕ) (x : T) (at at' : ℕ → Option X) (y : X)
       → true ≡ can_put t i h → slot_at t' ≡ update eqb (slot_at t) i (Some (slot h x)) → at' i ≡ Some y → ((r : ℕ) → (r ≡ i → ⊥) → at' r ≡ at r)
       → found_by (row_of t') at' ≡ update eqb (found_by (row_of t) at) h (Some y)
-  found_put t t' i h x at at' y can rows here others = fun_ext (λ q. ap (λ f. option_flatten (option_map at' (f q))) moved ∙ by q (eqb_tells q h) (row_of t q) refl)
+  found_put t t' i h x at at' y can rows here others = fun_ext (λ q. ap (λ f. option_flatten (option_map at' (f q))) moved ∙ by q (met_at q h) (row_of t q) refl)
     where
       moved : row_of t' ≡ update eqb (row_of t) h (Some i)
       moved = ap (λ s. λ q. first_row (λ k. is_handle q (s k)) n) rows ∙ put_found (slot_at t) n i h x (put_below t i h can) (put_unused t i h can) (put_fresh t i h can) t.differ
 
-      by : (q : ℕ) → ((eqb q h ≡ true) × (q ≡ h)) ⊎ ((eqb q h ≡ false) × (q ≡ h → ⊥)) → (o : Option ℕ) → row_of t q ≡ o → option_flatten (option_map at' (update eqb (row_of t) h (Some i) q)) ≡ update eqb (found_by (row_of t) at) h (Some y) q
+      by : (q : ℕ) → ((eqb h q ≡ true) × (q ≡ h)) ⊎ ((eqb h q ≡ false) × (q ≡ h → ⊥)) → (o : Option ℕ) → row_of t q ≡ o → option_flatten (option_map at' (update eqb (row_of t) h (Some i) q)) ≡ update eqb (found_by (row_of t) at) h (Some y) q
       by q (inl (b, e)) o r = rw b here
       by q (inr (b, e)) None r = rw (b, r) refl
       by q (inr (b, e)) (Some k) r =
@@ -89,7 +89,7 @@ module _ {T X : Type 0} {n : ℕ} where
   pub found_clear : (t t' : Table T n) (i h : ℕ) (at at' : ℕ → Option X)
       → row_of t h ≡ Some i → slot_at t' ≡ update eqb (slot_at t) i None → ((r : ℕ) → (r ≡ i → ⊥) → at' r ≡ at r)
       → found_by (row_of t') at' ≡ update eqb (found_by (row_of t) at) h None
-  found_clear t t' i h at at' row rows others = fun_ext (λ q. ap (λ f. option_flatten (option_map at' (f q))) moved ∙ by q (eqb_tells q h) (row_of t q) refl)
+  found_clear t t' i h at at' row rows others = fun_ext (λ q. ap (λ f. option_flatten (option_map at' (f q))) moved ∙ by q (met_at q h) (row_of t q) refl)
     where
       there : (is_handle h (slot_at t i) ≡ true) × (i < n)
       there = found_has t h i row
@@ -97,7 +97,7 @@ module _ {T X : Type 0} {n : ℕ} where
       moved : row_of t' ≡ update eqb (row_of t) h None
       moved = ap (λ s. λ q. first_row (λ k. is_handle q (s k)) n) rows ∙ clear_found (slot_at t) i n h t.differ there.0
 
-      by : (q : ℕ) → ((eqb q h ≡ true) × (q ≡ h)) ⊎ ((eqb q h ≡ false) × (q ≡ h → ⊥)) → (o : Option ℕ) → row_of t q ≡ o → option_flatten (option_map at' (update eqb (row_of t) h None q)) ≡ update eqb (found_by (row_of t) at) h None q
+      by : (q : ℕ) → ((eqb h q ≡ true) × (q ≡ h)) ⊎ ((eqb h q ≡ false) × (q ≡ h → ⊥)) → (o : Option ℕ) → row_of t q ≡ o → option_flatten (option_map at' (update eqb (row_of t) h None q)) ≡ update eqb (found_by (row_of t) at) h None q
       by q (inl (b, e)) o r = rw b refl
       by q (inr (b, e)) None r = rw (b, r) refl
       by q (inr (b, e)) (Some k) r =
@@ -108,12 +108,12 @@ module _ {T X : Type 0} {n : ℕ} where
   pub found_change : (t t' : Table T n) (i h : ℕ) (x : T) (at at' : ℕ → Option X)
       → row_of t h ≡ Some i → slot_at t' ≡ changed (slot_at t) i x → ((r : ℕ) → (r ≡ i → ⊥) → at' r ≡ at r)
       → found_by (row_of t') at' ≡ update eqb (found_by (row_of t) at) h (at' i)
-  found_change t t' i h x at at' row rows others = fun_ext (λ q. ap (λ f. option_flatten (option_map at' (f q))) moved ∙ by q (eqb_tells q h) (row_of t q) refl)
+  found_change t t' i h x at at' row rows others = fun_ext (λ q. ap (λ f. option_flatten (option_map at' (f q))) moved ∙ by q (met_at q h) (row_of t q) refl)
     where
       moved : row_of t' ≡ row_of t
       moved = ap (λ s. λ q. first_row (λ k. is_handle q (s k)) n) rows ∙ change_found (slot_at t) i x n
 
-      by : (q : ℕ) → ((eqb q h ≡ true) × (q ≡ h)) ⊎ ((eqb q h ≡ false) × (q ≡ h → ⊥)) → (o : Option ℕ) → row_of t q ≡ o → option_flatten (option_map at' (row_of t q)) ≡ update eqb (found_by (row_of t) at) h (at' i) q
+      by : (q : ℕ) → ((eqb h q ≡ true) × (q ≡ h)) ⊎ ((eqb h q ≡ false) × (q ≡ h → ⊥)) → (o : Option ℕ) → row_of t q ≡ o → option_flatten (option_map at' (row_of t q)) ≡ update eqb (found_by (row_of t) at) h (at' i) q
       by q (inl (b, e)) o r = rw (b, e, row) refl
       by q (inr (b, e)) None r = rw (b, r) refl
       by q (inr (b, e)) (Some k) r =
@@ -149,9 +149,9 @@ module _ {T X : Type 0} {n : ℕ} where
         by i lt true p = let same = t.differ i k (is_shared s.handle (slot_at t i) (slot_at t k) p here) in absurd (omega arith)
 
     next_used : (k : ℕ) (s : Slot T) → slot_at t k ≡ Some s → (h : ℕ) → held (suc k) h ≡ update eqb (held k) s.handle (at k) h
-    next_used k s e h = ap (λ o. option_flatten (option_map at o)) (row_suc (λ i. is_handle h (slot_at t i)) k) ∙ by (eqb_tells h s.handle)
+    next_used k s e h = ap (λ o. option_flatten (option_map at o)) (row_suc (λ i. is_handle h (slot_at t i)) k) ∙ by (met_at h s.handle)
       where
-        by : ((eqb h s.handle ≡ true) × (h ≡ s.handle)) ⊎ ((eqb h s.handle ≡ false) × (h ≡ s.handle → ⊥)) → option_flatten (option_map at (option_or (up_to k h) (cond (is_handle h (slot_at t k)) (Some k) None))) ≡ update eqb (held k) s.handle (at k) h
+        by : ((eqb s.handle h ≡ true) × (h ≡ s.handle)) ⊎ ((eqb s.handle h ≡ false) × (h ≡ s.handle → ⊥)) → option_flatten (option_map at (option_or (up_to k h) (cond (is_handle h (slot_at t k)) (Some k) None))) ≡ update eqb (held k) s.handle (at k) h
         by (inl (b, q)) =
             let none : up_to k h ≡ None = ap (up_to k) q ∙ none_before k s e in
             let yes : is_handle h (slot_at t k) ≡ true = ap (is_handle h) e ∙ grind (arith, nat_tests) in

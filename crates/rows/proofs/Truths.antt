@@ -1,5 +1,6 @@
 -- Tests by their values.
-use Rattle.std.proofs.Common.{◌≡◌, ℕ, Bool, true, false, not, ◌&&◌, ◌||◌, is_some, Some, None, Option, sym, refl, arith}
+use Rattle.std.proofs.Common.{◌≡◌, ℕ, Bool, true, false, not, ◌&&◌, ◌||◌, ◌⊎◌, eqb, is_some, Some, None, Option, sym, refl, inl, inr, arith}
+use Rattle.std.proofs.lemmas.Bool.Decides.{eqb_tells}
 
 -- a test has one value
 pub clash : {R : Type 0} {b : Bool} → b ≡ true → b ≡ false → R
@@ -41,3 +42,11 @@ nothing (Some x) e = clash refl (sym e)
 pub none_there : {X : Type 0} (o : Option X) → is_some o ≡ false → o ≡ None
 none_there None e = refl
 none_there (Some x) e = clash refl e
+
+-- an index at which a function is updated, or another
+pub met_at : (k i : ℕ) → ((eqb i k ≡ true) × (k ≡ i)) ⊎ ((eqb i k ≡ false) × (k ≡ i → ⊥))
+met_at k i = by (eqb_tells i k)
+  where
+    by : ((eqb i k ≡ true) × (i ≡ k)) ⊎ ((eqb i k ≡ false) × (i ≡ k → ⊥)) → ((eqb i k ≡ true) × (k ≡ i)) ⊎ ((eqb i k ≡ false) × (k ≡ i → ⊥))
+    by (inl (b, e)) = inl (b, sym e)
+    by (inr (b, ne)) = inr (b, λ e. ne (sym e))
