@@ -6,11 +6,11 @@ use Rattle.std.specs.List.{slice_get}
 use Rattle.std.specs.Option.{option_map, option_or, option_flatten}
 use Rattle.conversion.specs.Kinds.{kind_of_type}
 use Rattle.conversion.specs.declared.bindings.DeviceBinding.{DeviceBinding}
-use Rattle.device.specs.declared.records.Descriptor.{Descriptor}
+use Rattle.device.specs.Meaning.{Descriptor}
 use Rattle.device.specs.declared.records.Write.{Write}
 use Rattle.device.specs.Meaning.{LiveSet}
 use Rattle.device.specs.Writes.{Lists, descriptor_of, valid_for, valid_in, valid, covers, last_to, holding, set_after, after_writes, some_invalid}
-use Rattle.segments.specs.Segments.{length_at, element}
+use Rattle.segments.specs.Segments.{length_at}
 use Rattle.rows.specs.declared.holdings.SetRow.{SetRow}
 use Rattle.rows.specs.Bindings.{list_of, total_of, start_of}
 use Rattle.rows.specs.Slots.{is_handle}
@@ -18,7 +18,7 @@ use Rattle.rows.specs.Tables.{slot, slot_at, row_of}
 use Rattle.rows.specs.Holdings.{HeldSet, bindings_at, set_at, held_total, no_bindings}
 use Rattle.rows.proofs.Meant.{found_has, one_handle}
 use Rattle.counting.specs.declared.counting.CountingDevice.{CountingDevice}
-use Rattle.counting.specs.Counting.{Records, elements, written_in, live_of, live_in, sets_of}
+use Rattle.counting.specs.Counting.{stored, Records, elements, written_in, live_of, live_in, sets_of}
 use Rattle.counting.specs.Steps.{descriptor_for, Filled}
 use Rattle.rows.proofs.Truths.{clash, and_false, and_true}
 use Rattle.counting.proofs.Applying.{ends_before, ends_within, valid_room, valid_there}
@@ -49,31 +49,31 @@ module _ (r s : Records) (row : ℕ) (bs : List DeviceBinding) (w : Write) (l : 
   some_first (Some x) e t = refl
 
   -- an element that is there: its record, before and after
-  element_after : (b j : ℕ) → j < elements (slice_get bs b) → element s row (start_of bs b + j) ≡ option_or (for (start_of bs b + j)) (element r row (start_of bs b + j))
+  element_after : (b j : ℕ) → j < elements (slice_get bs b) → stored s row (start_of bs b + j) ≡ option_or (for (start_of bs b + j)) (stored r row (start_of bs b + j))
   element_after b j lt =
       let within = ends_within bs b in
       let t : ltb (start_of bs b + j) (length_at r row) ≡ true = grind (arith, nat_tests) in
-      filled.elements row (start_of bs b + j) ∙ ap (λ x. cond x (option_or (for (start_of bs b + j)) (element r row (start_of bs b + j))) (element r row (start_of bs b + j))) t
+      filled.elements row (start_of bs b + j) ∙ ap (λ x. cond x (option_or (for (start_of bs b + j)) (stored r row (start_of bs b + j))) (stored r row (start_of bs b + j))) t
 
   inside : (b j : ℕ) → j < elements (slice_get bs b) → ((eqb w.binding b ≡ true) × (w.binding ≡ b)) ⊎ ((eqb w.binding b ≡ false) × (w.binding ≡ b → ⊥)) → ((leb w.count j ≡ true) × (w.count ≤ j)) ⊎ ((leb w.count j ≡ false) × (j < w.count))
-      → element s row (start_of bs b + j) ≡ holding l j (element r row (start_of bs b + j)) (cond (eqb w.binding b && ltb j w.count) (Some w) None)
+      → stored s row (start_of bs b + j) ≡ holding l j (stored r row (start_of bs b + j)) (cond (eqb w.binding b && ltb j w.count) (Some w) None)
   inside b j lt (inl (p, e)) (inr (q, below)) =
       let t : ltb j w.count ≡ true = grind (arith, nat_tests) in
       let here : for (start_of bs b + j) ≡ descriptor_of l w j (kind_of_type w.descriptor_type) = ap (λ x. for (start_of bs x + j)) (sym e) ∙ is_for j below in
       element_after b j lt
-      ∙ (ap (λ o. option_or o (element r row (start_of bs b + j))) here
-      ∙ (some_first (descriptor_of l w j (kind_of_type w.descriptor_type)) (element r row (start_of bs b + j)) (valid_there l w (slice_get bs w.binding) ok j below)
-      ∙ ap₂ (λ x y. holding l j (element r row (start_of bs b + j)) (cond (x && y) (Some w) None)) (sym p) (sym t)))
+      ∙ (ap (λ o. option_or o (stored r row (start_of bs b + j))) here
+      ∙ (some_first (descriptor_of l w j (kind_of_type w.descriptor_type)) (stored r row (start_of bs b + j)) (valid_there l w (slice_get bs w.binding) ok j below)
+      ∙ ap₂ (λ x y. holding l j (stored r row (start_of bs b + j)) (cond (x && y) (Some w) None)) (sym p) (sym t)))
   inside b j lt (inl (p, e)) (inl (q, past)) =
       let t : ltb j w.count ≡ false = grind (arith, nat_tests) in
       let far : ltb (start_of bs b + j) (start_of bs w.binding + w.count) ≡ false = (let same = ap (start_of bs) e in grind (arith, nat_tests)) in
       element_after b j lt
-      ∙ (ap (λ o. option_or o (element r row (start_of bs b + j))) (not_for (start_of bs b + j) (inr far))
-      ∙ ap₂ (λ x y. holding l j (element r row (start_of bs b + j)) (cond (x && y) (Some w) None)) (sym p) (sym t))
+      ∙ (ap (λ o. option_or o (stored r row (start_of bs b + j))) (not_for (start_of bs b + j) (inr far))
+      ∙ ap₂ (λ x y. holding l j (stored r row (start_of bs b + j)) (cond (x && y) (Some w) None)) (sym p) (sym t))
   inside b j lt (inr (p, ne)) count =
       element_after b j lt
-      ∙ (ap (λ o. option_or o (element r row (start_of bs b + j))) (not_for (start_of bs b + j) (apart (leb_tells b w.binding)))
-      ∙ ap (λ x. holding l j (element r row (start_of bs b + j)) (cond (x && ltb j w.count) (Some w) None)) (sym p))
+      ∙ (ap (λ o. option_or o (stored r row (start_of bs b + j))) (not_for (start_of bs b + j) (apart (leb_tells b w.binding)))
+      ∙ ap (λ x. holding l j (stored r row (start_of bs b + j)) (cond (x && ltb j w.count) (Some w) None)) (sym p))
     where
       apart : ((leb b w.binding ≡ true) × (b ≤ w.binding)) ⊎ ((leb b w.binding ≡ false) × (w.binding < b)) → (leb (start_of bs w.binding) (start_of bs b + j) ≡ false) ⊎ (ltb (start_of bs b + j) (start_of bs w.binding + w.count) ≡ false)
       apart (inl (z, le)) = let less : b < w.binding = (let d : (b ≡ w.binding → ⊥) = λ q. ne (sym q) in grind (arith, nat_tests)) in let before = ends_before bs b w.binding less in inl (grind (arith, nat_tests))
@@ -121,12 +121,12 @@ module _ (d : CountingDevice) (s : Records) (w : Write) (l : Lists) (row : ℕ) 
     last_is h b j = ap (λ v. cond (covers w h b j && v) (Some w) None) is_valid ∙ ap (λ v. cond v (Some w) None) (and_true (covers w h b j))
 
     -- a set in another row
-    record_same : (k m : ℕ) → (k ≡ row → ⊥) → element s k m ≡ element d.records k m
+    record_same : (k m : ℕ) → (k ≡ row → ⊥) → stored s k m ≡ stored d.records k m
     record_same k m ne =
         let apart : eqb k row ≡ false = grind (arith, nat_tests) in
         filled.elements k m
-        ∙ (ap (λ v. cond (ltb m (length_at d.records k)) (option_or (cond (v && leb (start_of bs w.binding) m && ltb m (start_of bs w.binding + w.count)) (descriptor_of l w (m - start_of bs w.binding) (kind_of_type w.descriptor_type)) None) (element d.records k m)) (element d.records k m)) apart
-        ∙ either (ltb m (length_at d.records k)) (element d.records k m))
+        ∙ (ap (λ v. cond (ltb m (length_at d.records k)) (option_or (cond (v && leb (start_of bs w.binding) m && ltb m (start_of bs w.binding + w.count)) (descriptor_of l w (m - start_of bs w.binding) (kind_of_type w.descriptor_type)) None) (stored d.records k m)) (stored d.records k m)) apart
+        ∙ either (ltb m (length_at d.records k)) (stored d.records k m))
       where
         either : (v : Bool) (e : Option Descriptor) → cond v e e ≡ e
         either true e = refl

@@ -10,9 +10,9 @@ use Rattle.std.specs.Option.{option_map, option_or, option_flatten}
 use Rattle.conversion.specs.Kinds.{kind_of_type}
 use Rattle.conversion.specs.declared.kinds.Kind.{Kind}
 use Rattle.conversion.specs.declared.bindings.DeviceBinding.{DeviceBinding}
-use Rattle.device.specs.declared.records.Content.{Content}
-use Rattle.device.specs.declared.records.Content.TheVariants.{Image, Buffer, Acceleration}
-use Rattle.device.specs.declared.records.Descriptor.{Descriptor}
+use Rattle.device.specs.Meaning.{Content}
+use Rattle.device.specs.Meaning.{image, buffer, acceleration}
+use Rattle.device.specs.Meaning.{Descriptor}
 use Rattle.device.specs.declared.records.RecordList.{RecordList}
 use Rattle.device.specs.declared.records.RecordList.TheVariants.{Images, Buffers, Accelerations}
 use Rattle.device.specs.declared.records.Write.{Write}
@@ -53,9 +53,9 @@ is_there f (x ∷ xs) zero lt = refl
 is_there f (x ∷ xs) (suc i) lt = is_there f xs i (omega arith)
 
 content_there : (l : Lists) (q : RecordList) (i n : ℕ) → i < n → leb n (length_of l q) ≡ true → is_some (content_at l q i) ≡ true
-content_there l Images i n lt le = is_there Image l.images i (let t : n ≤ length l.images = grind (arith, nat_tests) in omega arith)
-content_there l Buffers i n lt le = is_there Buffer l.buffers i (let t : n ≤ length l.buffers = grind (arith, nat_tests) in omega arith)
-content_there l Accelerations i n lt le = is_there Acceleration l.accelerations i (let t : n ≤ length l.accelerations = grind (arith, nat_tests) in omega arith)
+content_there l Images i n lt le = is_there image l.images i (let t : n ≤ length l.images = grind (arith, nat_tests) in omega arith)
+content_there l Buffers i n lt le = is_there buffer l.buffers i (let t : n ≤ length l.buffers = grind (arith, nat_tests) in omega arith)
+content_there l Accelerations i n lt le = is_there acceleration l.accelerations i (let t : n ≤ length l.accelerations = grind (arith, nat_tests) in omega arith)
 
 mapped_there : {X Y : Type 0} (f : X → Y) (o : Option X) → is_some o ≡ true → is_some (option_map f o) ≡ true
 mapped_there f None e = clash e refl

@@ -3,11 +3,11 @@ use Rattle.std.proofs.Common.{◌≡◌, ℕ, ◌+◌, ◌-◌, ◌<◌, ◌≤�
 use Rattle.std.proofs.lemmas.Bool.Decides.{nat_tests, eqb_tells}
 use Rattle.std.specs.Option.{option_or}
 use Rattle.conversion.specs.Kinds.{kind_of_type}
-use Rattle.device.specs.declared.records.Descriptor.{Descriptor}
+use Rattle.device.specs.Meaning.{Descriptor}
 use Rattle.device.specs.declared.records.Write.{Write}
 use Rattle.device.specs.Writes.{Lists, descriptor_of}
-use Rattle.segments.specs.Segments.{length_at, element}
-use Rattle.counting.specs.Counting.{Records}
+use Rattle.segments.specs.Segments.{length_at}
+use Rattle.counting.specs.Counting.{stored, Records}
 use Rattle.counting.specs.Steps.{PutAt, descriptor_for, Filled}
 
 module _ (r : Records) (row start : ℕ) (w : Write) (j : ℕ) (l : Lists) where
@@ -60,14 +60,14 @@ module _ (r : Records) (row start : ℕ) (w : Write) (j : ℕ) (l : Lists) where
   -- what one record holds before and after
   abbrev Step : ℕ → ℕ → Type 0
   Step k m =
-      cond (is_some o && ltb (start + j) (length_at r row) && eqb k row && eqb m (start + j)) o (cond (ltb m (length_at r k)) (option_or (descriptor_for row start w j l k m) (element r k m)) (element r k m))
-      ≡ cond (ltb m (length_at r k)) (option_or (descriptor_for row start w (j + 1) l k m) (element r k m)) (element r k m)
+      cond (is_some o && ltb (start + j) (length_at r row) && eqb k row && eqb m (start + j)) o (cond (ltb m (length_at r k)) (option_or (descriptor_for row start w j l k m) (stored r k m)) (stored r k m))
+      ≡ cond (ltb m (length_at r k)) (option_or (descriptor_for row start w (j + 1) l k m) (stored r k m)) (stored r k m)
 
   here : Step row (start + j)
   here =
       let a : eqb row row ≡ true = grind (arith, nat_tests) in
       let b : eqb (start + j) (start + j) ≡ true = grind (arith, nat_tests) in
-      let e = element r row (start + j) in
+      let e = stored r row (start + j) in
       let n = ltb (start + j) (length_at r row) in
       ap₂ (λ x y. cond (is_some o && n && x && y) o (cond n (option_or (descriptor_for row start w j l row (start + j)) e) e)) a b
       ∙ (ap (λ x. cond (is_some o && n && true && true) o (cond n (option_or x e) e)) at_last
@@ -77,13 +77,13 @@ module _ (r : Records) (row start : ℕ) (w : Write) (j : ℕ) (l : Lists) where
   by_cases : (k m : ℕ) → ((eqb k row ≡ true) × (k ≡ row)) ⊎ ((eqb k row ≡ false) × (k ≡ row → ⊥)) → ((eqb m (start + j) ≡ true) × (m ≡ start + j)) ⊎ ((eqb m (start + j) ≡ false) × (m ≡ start + j → ⊥)) → Step k m
   by_cases k m (inl (p, e)) (inl (q, f)) = subst (λ x. Step x m) (sym e) (subst (Step row) (sym f) here)
   by_cases k m (inr (p, ne)) b =
-      ap (λ x. cond (is_some o && ltb (start + j) (length_at r row) && x && eqb m (start + j)) o (cond (ltb m (length_at r k)) (option_or (descriptor_for row start w j l k m) (element r k m)) (element r k m))) p
-      ∙ (kept_row o (ltb (start + j) (length_at r row)) (eqb m (start + j)) (cond (ltb m (length_at r k)) (option_or (descriptor_for row start w j l k m) (element r k m)) (element r k m))
-      ∙ sym (ap (λ x. cond (ltb m (length_at r k)) (option_or x (element r k m)) (element r k m)) (other_row k m ne)))
+      ap (λ x. cond (is_some o && ltb (start + j) (length_at r row) && x && eqb m (start + j)) o (cond (ltb m (length_at r k)) (option_or (descriptor_for row start w j l k m) (stored r k m)) (stored r k m))) p
+      ∙ (kept_row o (ltb (start + j) (length_at r row)) (eqb m (start + j)) (cond (ltb m (length_at r k)) (option_or (descriptor_for row start w j l k m) (stored r k m)) (stored r k m))
+      ∙ sym (ap (λ x. cond (ltb m (length_at r k)) (option_or x (stored r k m)) (stored r k m)) (other_row k m ne)))
   by_cases k m (inl (p, e)) (inr (q, nf)) =
-      ap (λ x. cond (is_some o && ltb (start + j) (length_at r row) && eqb k row && x) o (cond (ltb m (length_at r k)) (option_or (descriptor_for row start w j l k m) (element r k m)) (element r k m))) q
-      ∙ (kept o (ltb (start + j) (length_at r row)) (eqb k row) (cond (ltb m (length_at r k)) (option_or (descriptor_for row start w j l k m) (element r k m)) (element r k m))
-      ∙ sym (ap (λ x. cond (ltb m (length_at r k)) (option_or x (element r k m)) (element r k m)) (elsewhere k m (inl (p, e)) nf)))
+      ap (λ x. cond (is_some o && ltb (start + j) (length_at r row) && eqb k row && x) o (cond (ltb m (length_at r k)) (option_or (descriptor_for row start w j l k m) (stored r k m)) (stored r k m))) q
+      ∙ (kept o (ltb (start + j) (length_at r row)) (eqb k row) (cond (ltb m (length_at r k)) (option_or (descriptor_for row start w j l k m) (stored r k m)) (stored r k m))
+      ∙ sym (ap (λ x. cond (ltb m (length_at r k)) (option_or x (stored r k m)) (stored r k m)) (elsewhere k m (inl (p, e)) nf)))
 
   pub filled_more : (s t : Records) → Filled r row start w j l s → PutAt s row (start + j) (descriptor_of l w j (kind_of_type w.descriptor_type)) t → Filled r row start w (j + 1) l t
   filled_more s t so_far put =

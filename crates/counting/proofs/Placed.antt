@@ -7,6 +7,7 @@ use Rattle.std.specs.List.{slice_get}
 use Rattle.std.specs.Option.{option_map}
 use Rattle.conversion.specs.declared.bindings.DeviceBinding.{DeviceBinding}
 use Rattle.device.specs.Meaning.{LiveSet, sum_below}
+use Rattle.device.specs.Stored.{described}
 use Rattle.device.specs.Results.{no_device_memory}
 use Rattle.device.specs.Calls.{new_set}
 use Rattle.segments.specs.Places.{changed_at}
@@ -20,13 +21,13 @@ use Rattle.rows.proofs.Meant.{found_put}
 use Rattle.counting.specs.declared.counting.CountingDevice.{CountingDevice}
 use Rattle.counting.specs.declared.calls.Place.{Place}
 use Rattle.counting.specs.Given.{Given}
-use Rattle.counting.specs.Counting.{Records, elements, written_in, live_of, live_in, sets_of, next_handle, in_records, fixed_set}
+use Rattle.counting.specs.Counting.{stored, Records, elements, written_in, live_of, live_in, sets_of, next_handle, in_records, fixed_set}
 use Rattle.counting.specs.Counting as c
 use Rattle.counting.specs.Steps.{SetPlaced}
 use Rattle.counting.proofs.Fixed.{used_is}
 use Rattle.counting.specs.Kept.{given_later, given_put, not_given, can_put_lem, unused_is, next_is, in_row_lem}
 use Rattle.counting.proofs.Made.{put_rows}
-use Rattle.counting.proofs.Places.{held_here, held_apart, live_same, sized_changed}
+use Rattle.counting.proofs.Places.{none_described, held_here, held_apart, live_same, sized_changed}
 
 -- what a handle that is fixed for a set tells
 pub in_records_lem : (d : CountingDevice) (n h : ℕ) (r : Result ℕ ℤ) → in_records d n r ≡ Ok h → (r ≡ Ok h) × (ltb (size d.records) (sum_below 1024 (total_at d.holdings) + n) ≡ false)
@@ -71,8 +72,8 @@ module _ (d : CountingDevice) (n : ℕ) (p : Place) (placed : SetPlaced d n p) w
     lengths : length_at s ≡ changed_at (length_at d.records) p.row n
     lengths = made.lengths ∙ ap (λ x. cond x (changed_at (length_at d.records) p.row n) (length_at d.records)) is_made
 
-    contents : (k m : ℕ) → element s k m ≡ cond (eqb k p.row) None (element d.records k m)
-    contents k m = made.elements k m ∙ ap (λ x. cond (x && eqb k p.row) None (element d.records k m)) is_made
+    contents : (k m : ℕ) → stored s k m ≡ cond (eqb k p.row) None (stored d.records k m)
+    contents k m = ap (option_map described) (made.elements k m) ∙ (none_described (b && eqb k p.row) (element d.records k m) ∙ ap (λ x. cond (x && eqb k p.row) None (stored d.records k m)) is_made)
 
     pub placed_given : Given p.handle t
     placed_given = let next = placed_next.0 in given_put d.holdings.sets t p.row p.handle (record { pool = q; layout = j }) (omega arith) after (given_later d.holdings.sets t (omega arith) d.sets)
@@ -86,8 +87,8 @@ module _ (d : CountingDevice) (n : ℕ) (p : Place) (placed : SetPlaced d n p) w
         here : eqb p.row p.row ≡ true
         here = grind (arith, nat_tests)
 
-        by : (x y : ℕ) (b : Bool) → cond b (element s p.row (start_of bs x + y)) None ≡ None
-        by x y true = contents p.row (start_of bs x + y) ∙ ap (λ b. cond b None (element d.records p.row (start_of bs x + y))) here
+        by : (x y : ℕ) (b : Bool) → cond b (stored s p.row (start_of bs x + y)) None ≡ None
+        by x y true = contents p.row (start_of bs x + y) ∙ ap (λ b. cond b None (stored d.records p.row (start_of bs x + y))) here
         by x y false = refl
 
     pub placed_sets : found_by (row_of t) (live_in (held_in d.holdings.bindings t) s) ≡ update eqb (sets_of d.holdings d.records) p.handle (Some (new_set q (bindings_at d.holdings j)))
@@ -102,4 +103,4 @@ module _ (d : CountingDevice) (n : ℕ) (p : Place) (placed : SetPlaced d n p) w
         others k ne =
             let apart : eqb k p.row ≡ false = grind (arith, nat_tests) in
             ap (option_map (live_of s k)) (held_apart d.holdings.bindings d.holdings.sets t p.row k (Some (slot p.handle (record { pool = q; layout = j }))) after ne)
-            ∙ live_same (set_at d.holdings) d.records s k (λ m. contents k m ∙ ap (λ x. cond x None (element d.records k m)) apart)
+            ∙ live_same (set_at d.holdings) d.records s k (λ m. contents k m ∙ ap (λ x. cond x None (stored d.records k m)) apart)

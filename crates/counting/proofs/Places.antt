@@ -6,12 +6,13 @@ use Rattle.std.specs.Map.{update}
 use Rattle.std.specs.List.{slice_get}
 use Rattle.std.specs.Option.{option_map, option_flatten}
 use Rattle.conversion.specs.declared.bindings.DeviceBinding.{DeviceBinding}
-use Rattle.device.specs.declared.records.Descriptor.{Descriptor}
+use Rattle.device.specs.declared.records.Descriptor as kept
+use Rattle.device.specs.Stored.{described}
 use Rattle.device.specs.Meaning.{LiveSet}
 use Rattle.device.specs.Calls.{outside}
 use Rattle.std.proofs.lemmas.List.{get_or_past}
 use Rattle.segments.specs.Places.{changed_at}
-use Rattle.segments.specs.Segments.{length_at, element}
+use Rattle.segments.specs.Segments.{length_at}
 use Rattle.rows.specs.declared.slots.Slot.{Slot}
 use Rattle.rows.specs.declared.table.Table.{Table}
 use Rattle.rows.specs.declared.bindings.Bindings.{Bindings}
@@ -25,15 +26,20 @@ use Rattle.rows.specs.Holdings.{HeldSet, layout_in, layouts_of, pool_in, pools_o
 use Rattle.rows.proofs.Meant.{found_put, found_clear, found_kept, found_used}
 use Rattle.counting.specs.declared.counting.CountingDevice.{CountingDevice}
 use Rattle.counting.specs.Steps.{is_of, in_pool_at, SameRest, Removed, AllRemoved}
-use Rattle.counting.specs.Counting.{sets_of, Records, elements, written_in, live_of, live_in}
-use Rattle.rows.proofs.Truths.{clash, and_false}
+use Rattle.counting.specs.Counting.{stored, sets_of, Records, elements, written_in, live_of, live_in}
+use Rattle.rows.proofs.Truths.{clash, and_false, eqb_turned}
 use Rattle.counting.proofs.Made.{slot_here, slot_apart}
 
+-- a record cleared, or not, and what it says
+pub none_described : (b : Bool) (o : Option kept.Descriptor) → option_map described (cond b None o) ≡ cond b None (option_map described o)
+none_described true o = refl
+none_described false o = refl
+
 -- the descriptors of a set in a row, by the records of that row
-written_same : (r s : Records) (i : ℕ) (bs : List DeviceBinding) → ((m : ℕ) → element s i m ≡ element r i m) → written_in s i bs ≡ written_in r i bs
+written_same : (r s : Records) (i : ℕ) (bs : List DeviceBinding) → ((m : ℕ) → stored s i m ≡ stored r i m) → written_in s i bs ≡ written_in r i bs
 written_same r s i bs e = fun_ext (λ b. fun_ext (λ j. ap (λ x. cond (ltb j (elements (slice_get bs b))) x None) (e (start_of bs b + j))))
 
-pub live_same : (f : ℕ → Option HeldSet) (r s : Records) (i : ℕ) → ((m : ℕ) → element s i m ≡ element r i m) → live_in f s i ≡ live_in f r i
+pub live_same : (f : ℕ → Option HeldSet) (r s : Records) (i : ℕ) → ((m : ℕ) → stored s i m ≡ stored r i m) → live_in f s i ≡ live_in f r i
 live_same f r s i e = by (f i)
   where
     by : (o : Option HeldSet) → option_map (live_of s i) o ≡ option_map (live_of r i) o
@@ -95,7 +101,7 @@ abbrev pub Through : CountingDevice → ℕ → ℕ → CountingDevice → Type 
 Through d p row e =
     SameRest d e × (e.mark ≡ d.mark)
     × ((k : ℕ) → slot_at e.holdings.sets k ≡ cond (ltb k row && in_pool_at d p k) None (slot_at d.holdings.sets k))
-    × ((k m : ℕ) → element e.records k m ≡ cond (ltb k row && in_pool_at d p k) None (element d.records k m))
+    × ((k m : ℕ) → stored e.records k m ≡ cond (ltb k row && in_pool_at d p k) None (stored d.records k m))
 
 module _ (d : CountingDevice) (p row : ℕ) (e : CountingDevice) (so_far : Through d p row e) where
   untouched : slot_at e.holdings.sets row ≡ slot_at d.holdings.sets row
@@ -114,8 +120,8 @@ module _ (d : CountingDevice) (p row : ℕ) (e : CountingDevice) (so_far : Throu
       size = gone.rest.size ∙ so_far.0.size;
     },
     gone.mark ∙ so_far.1,
-    row_cleared None (slot_at e.holdings.sets) (slot_at d.holdings.sets) (in_pool_at d p) row so_far.2 (slot_at f.holdings.sets) (λ k. ap (λ s. s k) gone.sets) (sym asked ∙ sym taken),
-    λ k m. row_cleared None (λ k. element e.records k m) (λ k. element d.records k m) (in_pool_at d p) row (λ k. so_far.3 k m) (λ k. element f.records k m) (λ k. gone.elements k m) (sym asked ∙ sym taken) k,
+    row_cleared None (slot_at e.holdings.sets) (slot_at d.holdings.sets) (in_pool_at d p) row so_far.2 (slot_at f.holdings.sets) (λ k. ap (λ s. s k) gone.sets ∙ ap (λ x. cond x None (slot_at e.holdings.sets k)) (eqb_turned row k)) (sym asked ∙ sym taken),
+    λ k m. row_cleared None (λ k. stored e.records k m) (λ k. stored d.records k m) (in_pool_at d p) row (λ k. so_far.3 k m) (λ k. stored f.records k m) (λ k. gone.elements k m) (sym asked ∙ sym taken) k,
   )
 
   pub through_kept : false ≡ in_pool_at e p row → Through d p (row + 1) e
@@ -123,7 +129,7 @@ module _ (d : CountingDevice) (p row : ℕ) (e : CountingDevice) (so_far : Throu
     so_far.0,
     so_far.1,
     row_kept None (slot_at e.holdings.sets) (slot_at d.holdings.sets) (in_pool_at d p) row so_far.2 (sym asked ∙ sym left),
-    λ k m. row_kept None (λ k. element e.records k m) (λ k. element d.records k m) (in_pool_at d p) row (λ k. so_far.3 k m) (sym asked ∙ sym left) k,
+    λ k m. row_kept None (λ k. stored e.records k m) (λ k. stored d.records k m) (in_pool_at d p) row (λ k. so_far.3 k m) (sym asked ∙ sym left) k,
   )
 
   none_past : (k : ℕ) → 1024 ≤ k → in_pool_at d p k ≡ false
@@ -135,7 +141,7 @@ module _ (d : CountingDevice) (p row : ℕ) (e : CountingDevice) (so_far : Throu
         rest = so_far.0;
         mark = so_far.1;
         sets = rows_all None (slot_at e.holdings.sets) (slot_at d.holdings.sets) (in_pool_at d p) row so_far.2 all none_past;
-        elements = λ k m. rows_all None (λ k. element e.records k m) (λ k. element d.records k m) (in_pool_at d p) row (λ k. so_far.3 k m) all none_past k;
+        elements = λ k m. rows_all None (λ k. stored e.records k m) (λ k. stored d.records k m) (in_pool_at d p) row (λ k. so_far.3 k m) all none_past k;
       }
 
 -- a set removed, by its handle
@@ -147,7 +153,7 @@ freed_sets d i h e row gone = found_clear d.holdings.sets e.holdings.sets i h (l
         let apart : eqb r i ≡ false = grind (arith, nat_tests) in
         ap (λ bs. option_map (live_of e.records r) (held_in bs e.holdings.sets r)) gone.rest.bindings
         ∙ (ap (option_map (live_of e.records r)) (held_apart d.holdings.bindings d.holdings.sets e.holdings.sets i r None gone.sets ne)
-        ∙ live_same (set_at d.holdings) d.records e.records r (λ m. gone.elements r m ∙ ap (λ b. cond b None (element d.records r m)) apart))
+        ∙ live_same (set_at d.holdings) d.records e.records r (λ m. gone.elements r m ∙ ap (λ b. cond b None (stored d.records r m)) apart))
 
 -- all sets of a pool removed
 pub outside_sets : (d : CountingDevice) (p : ℕ) (e : CountingDevice) → AllRemoved d p e → sets_of e.holdings e.records ≡ (λ h. outside p (sets_of d.holdings d.records h))
@@ -170,7 +176,7 @@ outside_sets d p e gone = found_kept d.holdings.sets e.holdings.sets (live_in (s
     live k false q =
         ap (λ o. option_map (live_of e.records k) (held e.holdings.bindings o)) (gone.sets k ∙ ap (λ b. cond b None (slot_at d.holdings.sets k)) q)
         ∙ (ap (λ bs. option_map (live_of e.records k) (held bs (slot_at d.holdings.sets k))) gone.rest.bindings
-        ∙ (live_same (set_at d.holdings) d.records e.records k (λ m. gone.elements k m ∙ ap (λ b. cond b None (element d.records k m)) q)
+        ∙ (live_same (set_at d.holdings) d.records e.records k (λ m. gone.elements k m ∙ ap (λ b. cond b None (stored d.records k m)) q)
         ∙ is_in k (slot_at d.holdings.sets k) q))
 
     each : (r : ℕ) → (slot_at e.holdings.sets r ≡ slot_at d.holdings.sets r) ⊎ ((slot_at e.holdings.sets r ≡ None) × (live_in (set_at e.holdings) e.records r ≡ None))

@@ -4,7 +4,7 @@ use Rattle.std.proofs.lemmas.Bool.Decides.{nat_tests, eqb_tells}
 use Rattle.std.specs.Map.{update}
 use Rattle.std.specs.Option.{option_map, option_or}
 use Rattle.device.specs.declared.faults.DeviceFault.{DeviceFault}
-use Rattle.device.specs.declared.records.Descriptor.{Descriptor}
+use Rattle.device.specs.Meaning.{Descriptor}
 use Rattle.device.specs.declared.records.Write.{Write}
 use Rattle.device.specs.Meaning.{State, LiveLayout, LivePool, LiveSet, unfit, exhausted, binding_counts}
 use Rattle.device.specs.Results.{unknown, out_of_pool, answered}
@@ -21,7 +21,7 @@ use Rattle.counting.specs.Counting.{meaning_of, next_handle, fixed_layout, fixed
 use Rattle.counting.specs.Reading.{held_by, read_back}
 use Rattle.counting.specs.Runs.{given, Held, Event, Reaches, is_given, Never, Once, then_held, last_written, HandlesOnce, ReadsBack}
 use Rattle.counting.specs.Kept.{next_is, in_row_lem}
-use Rattle.rows.proofs.Truths.{and_false, and_true}
+use Rattle.rows.proofs.Truths.{and_false, and_true, eqb_turned}
 use Rattle.counting.proofs.Placed.{in_records_lem}
 
 -- a handle that is given is the next one
@@ -132,14 +132,14 @@ module _ (h b j : ℕ) where
   pool_gone false p o = refl
 
   put_new : (q : ℕ) (bs : List _) (k : ℕ) (sets : ℕ → Option LiveSet) → held_by (update eqb sets k (Some (new_set q bs)) h) b j ≡ cond (eqb h k) None (held_by (sets h) b j)
-  put_new q bs k sets = by (eqb h k)
+  put_new q bs k sets = ap (λ x. held_by (cond x (Some (new_set q bs)) (sets h)) b j) (eqb_turned k h) ∙ by (eqb h k)
     where
       by : (x : Bool) → held_by (cond x (Some (new_set q bs)) (sets h)) b j ≡ cond x None (held_by (sets h) b j)
       by true = refl
       by false = refl
 
   put_none : (k : ℕ) (sets : ℕ → Option LiveSet) → held_by (update eqb sets k None h) b j ≡ cond (eqb h k) None (held_by (sets h) b j)
-  put_none k sets = by (eqb h k)
+  put_none k sets = ap (λ x. held_by (cond x None (sets h)) b j) (eqb_turned k h) ∙ by (eqb h k)
     where
       by : (x : Bool) → held_by (cond x None (sets h)) b j ≡ cond x None (held_by (sets h) b j)
       by true = refl

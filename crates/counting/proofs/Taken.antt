@@ -19,7 +19,7 @@ use Rattle.device.specs.declared.faults.DeviceFault.{DeviceFault}
 use Rattle.device.specs.Results.{no_host_memory, no_device_memory, out_of_pool, answered}
 use Rattle.device.specs.Calls.{SetMade, unless_invalid, set_answer, invalid_set, sets_mark, new_set, bindings_in, remembered}
 use Rattle.device.proofs.Below.{below_same}
-use Rattle.segments.specs.Segments.{element, size, used}
+use Rattle.segments.specs.Segments.{size, used}
 use Rattle.rows.specs.declared.table.Table.{Table}
 use Rattle.rows.specs.declared.pools.PoolRow.{PoolRow}
 use Rattle.rows.specs.declared.holdings.Holdings.{Holdings}

@@ -3,9 +3,10 @@ use Rattle.std.specs.Prelude.{◌≡◌, ℕ, ◌+◌, Bool, true, false, cond, 
 use Rattle.std.specs.List.{slice_get}
 use Rattle.std.specs.Option.{option_map}
 use Rattle.conversion.specs.declared.bindings.DeviceBinding.{DeviceBinding}
-use Rattle.device.specs.declared.records.Descriptor.{Descriptor}
+use Rattle.device.specs.declared.records.Descriptor as kept
 use Rattle.device.specs.declared.records.PoolSize.{PoolSize}
-use Rattle.device.specs.Meaning.{State, LiveSet, sum_below}
+use Rattle.device.specs.Meaning.{State, LiveSet, Descriptor, sum_below}
+use Rattle.device.specs.Stored.{described}
 use Rattle.device.specs.Results.{no_host_memory, no_device_memory}
 use Rattle.device.specs.Calls.{bindings_in, layout_answer, pool_answer, set_answer}
 use Rattle.device.specs.Requests.{Request, create_layout, destroy_layout, create_pool, destroy_pool, allocate_set, free_set, update_sets}
@@ -19,7 +20,11 @@ use Rattle.counting.specs.declared.counting.CountingDevice.{CountingDevice}
 
 -- the records: one segment for each row of sets
 abbrev pub Records : Type 0
-Records = Segments Descriptor 1024
+Records = Segments kept.Descriptor 1024
+
+-- what a record says
+abbrev pub stored : Records → ℕ → ℕ → Option Descriptor
+stored r i m = option_map described (element r i m)
 
 -- how many elements a binding has; one that is not there has none
 abbrev pub elements : Option DeviceBinding → ℕ
@@ -28,7 +33,7 @@ elements (Some b) = b.count
 
 -- what stands in an element of the set in a row: its record, after those of the bindings before
 abbrev pub written_in : Records → ℕ → List DeviceBinding → ℕ → ℕ → Option Descriptor
-written_in r i bs b j = cond (nat_lt j (elements (slice_get bs b))) (element r i (start_of bs b + j)) None
+written_in r i bs b j = cond (nat_lt j (elements (slice_get bs b))) (stored r i (start_of bs b + j)) None
 
 -- a live set: what its row says, and what its records hold
 abbrev pub live_of : Records → ℕ → HeldSet → LiveSet

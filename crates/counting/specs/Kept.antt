@@ -17,7 +17,7 @@ use Rattle.rows.specs.Slots.{first_row, is_handle}
 use Rattle.rows.specs.Bindings.{list_of}
 use Rattle.rows.specs.Tables.{slot, slot_at, row_of, unused_row, can_put, changed}
 use Rattle.rows.specs.Holdings.{HeldSet, names, held_in, is_named, is_free_layout_row, free_layout_row, no_bindings}
-use Rattle.rows.proofs.Truths.{clash, and_both, nothing, none_there}
+use Rattle.rows.proofs.Truths.{met_at, clash, and_both, nothing, none_there}
 use Rattle.rows.proofs.Found.{row_some, row_none, change_handle}
 use Rattle.rows.proofs.Meant.{found_has}
 use Rattle.counting.specs.declared.counting.CountingDevice.{CountingDevice}
@@ -30,16 +30,16 @@ module _ {T : Type 0} {n : ℕ} (t t' : Table T n) where
   given_later le g i h e = let a = g i h e in omega arith
 
   pub given_put : {last : ℕ} (i h : ℕ) (x : T) → h ≤ last → slot_at t' ≡ update nat_eq (slot_at t) i (Some (slot h x)) → Given last t → Given last t'
-  given_put {last = last} i h x le rows g k q e = by (eqb_tells k i) (ap (λ s. is_handle q (s k)) (sym rows) ∙ e)
+  given_put {last = last} i h x le rows g k q e = by (met_at k i) (ap (λ s. is_handle q (s k)) (sym rows) ∙ e)
     where
-      by : (((k == i) ≡ true) × (k ≡ i)) ⊎ (((k == i) ≡ false) × (k ≢ i)) → is_handle q (update nat_eq (slot_at t) i (Some (slot h x)) k) ≡ true → q ≤ last
+      by : (((i == k) ≡ true) × (k ≡ i)) ⊎ (((i == k) ≡ false) × (k ≢ i)) → is_handle q (update nat_eq (slot_at t) i (Some (slot h x)) k) ≡ true → q ≤ last
       by (inl (b, s)) f = let here : nat_eq h q ≡ true = rw b at f in let same : h ≡ q = grind (arith, nat_tests) in omega arith
       by (inr (b, s)) f = g k q (rw b at f)
 
   pub given_clear : {last : ℕ} (i : ℕ) → slot_at t' ≡ update nat_eq (slot_at t) i None → Given last t → Given last t'
-  given_clear {last = last} i rows g k q e = by (eqb_tells k i) (ap (λ s. is_handle q (s k)) (sym rows) ∙ e)
+  given_clear {last = last} i rows g k q e = by (met_at k i) (ap (λ s. is_handle q (s k)) (sym rows) ∙ e)
     where
-      by : (((k == i) ≡ true) × (k ≡ i)) ⊎ (((k == i) ≡ false) × (k ≢ i)) → is_handle q (update nat_eq (slot_at t) i None k) ≡ true → q ≤ last
+      by : (((i == k) ≡ true) × (k ≡ i)) ⊎ (((i == k) ≡ false) × (k ≢ i)) → is_handle q (update nat_eq (slot_at t) i None k) ≡ true → q ≤ last
       by (inl (b, s)) f = let no : ◌≡◌ {A = Bool} false true = rw b at f in clash refl (sym no)
       by (inr (b, s)) f = g k q (rw b at f)
 

@@ -1,7 +1,7 @@
 -- Lists of calls on a counting device, and what is true after any of them. Assumes nothing.
 use Rattle.std.specs.Prelude.{◌≡◌, ℕ, Bool, false, cond, ◌&&◌, List, [], ◌∷◌, is_some, Some, None, Ok, Err, Option, Result, ◌==◌}
 use Rattle.device.specs.declared.faults.DeviceFault.{DeviceFault}
-use Rattle.device.specs.declared.records.Descriptor.{Descriptor}
+use Rattle.device.specs.Meaning.{Descriptor}
 use Rattle.device.specs.Meaning.{State}
 use Rattle.device.specs.Writes.{last_to, holding}
 use Rattle.device.specs.Calls.{LayoutMade, LayoutGone, PoolMade, PoolGone, SetMade, SetFreed, Updated, lives_in, Empty}

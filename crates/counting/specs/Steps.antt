@@ -5,10 +5,10 @@ use Rattle.std.specs.Option.{option_or}
 use Rattle.conversion.specs.declared.bindings.DeviceBinding.{DeviceBinding}
 use Rattle.rows.specs.Bindings.{list_of}
 use Rattle.conversion.specs.Kinds.{kind_of_type}
-use Rattle.device.specs.declared.records.Descriptor.{Descriptor}
+use Rattle.device.specs.Meaning.{Descriptor}
 use Rattle.device.specs.declared.records.Write.{Write}
 use Rattle.device.specs.Writes.{Lists, descriptor_of, after_writes, some_invalid}
-use Rattle.segments.specs.Segments.{length_at, element, size}
+use Rattle.segments.specs.Segments.{length_at, size}
 use Rattle.rows.specs.declared.slots.Slot.{Slot}
 use Rattle.rows.specs.declared.holdings.SetRow.{SetRow}
 use Rattle.rows.specs.Tables.{slot_at, unused_row}
@@ -16,7 +16,7 @@ use Rattle.rows.specs.Holdings.{free_layout_row}
 use Rattle.counting.specs.declared.counting.CountingDevice.{CountingDevice}
 use Rattle.counting.specs.declared.calls.Place.{Place}
 use Rattle.counting.specs.declared.calls.LayoutPlace.{LayoutPlace}
-use Rattle.counting.specs.Counting.{Records, sets_of, fixed_layout, fixed_pool, fixed_set}
+use Rattle.counting.specs.Counting.{stored, Records, sets_of, fixed_layout, fixed_pool, fixed_set}
 
 -- the mark set, and nothing else changed
 pub record Marked (d e : CountingDevice) : Type 0 where
@@ -62,20 +62,20 @@ pub record Removed (d : CountingDevice) (i : ℕ) (e : CountingDevice) : Type 0 
   pub rest : SameRest d e
   pub mark : e.mark ≡ d.mark
   pub sets : slot_at e.holdings.sets ≡ update nat_eq (slot_at d.holdings.sets) i None
-  pub elements : (k m : ℕ) → element e.records k m ≡ cond (k == i) None (element d.records k m)
+  pub elements : (k m : ℕ) → stored e.records k m ≡ cond (k == i) None (stored d.records k m)
 
 -- all sets of a pool removed
 pub record AllRemoved (d : CountingDevice) (p : ℕ) (e : CountingDevice) : Type 0 where
   pub rest : SameRest d e
   pub mark : e.mark ≡ d.mark
   pub sets : (k : ℕ) → slot_at e.holdings.sets k ≡ cond (in_pool_at d p k) None (slot_at d.holdings.sets k)
-  pub elements : (k m : ℕ) → element e.records k m ≡ cond (in_pool_at d p k) None (element d.records k m)
+  pub elements : (k m : ℕ) → stored e.records k m ≡ cond (in_pool_at d p k) None (stored d.records k m)
 
 -- a descriptor put into a record, if there is one and the segment is that long
 pub record PutAt (r : Records) (row at : ℕ) (o : Option Descriptor) (s : Records) : Type 0 where
   pub lengths : length_at s ≡ length_at r
   pub size : size s ≡ size r
-  pub elements : (k m : ℕ) → element s k m ≡ cond (is_some o && nat_lt at (length_at r row) && k == row && m == at) o (element r k m)
+  pub elements : (k m : ℕ) → stored s k m ≡ cond (is_some o && nat_lt at (length_at r row) && k == row && m == at) o (stored r k m)
 
 -- the descriptor that the first n of a write have for a record, where one goes there
 abbrev pub descriptor_for : ℕ → ℕ → Write → ℕ → Lists → ℕ → ℕ → Option Descriptor
@@ -85,7 +85,7 @@ descriptor_for row start w n l k m = cond (k == row && nat_le start m && nat_lt 
 pub record Filled (r : Records) (row start : ℕ) (w : Write) (n : ℕ) (l : Lists) (s : Records) : Type 0 where
   pub lengths : length_at s ≡ length_at r
   pub size : size s ≡ size r
-  pub elements : (k m : ℕ) → element s k m ≡ cond (nat_lt m (length_at r k)) (option_or (descriptor_for row start w n l k m) (element r k m)) (element r k m)
+  pub elements : (k m : ℕ) → stored s k m ≡ cond (nat_lt m (length_at r k)) (option_or (descriptor_for row start w n l k m) (stored r k m)) (stored r k m)
 
 -- one write done, or the mark set
 pub record Applied (d : CountingDevice) (w : Write) (l : Lists) (e : CountingDevice) : Type 0 where

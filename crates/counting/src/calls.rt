@@ -86,7 +86,7 @@ impl CountingDevice {
 
     // A call that is invalid, or finds its pool exhausted: it sets the mark, and changes nothing else.
     pub(crate) fn refused(&mut self, call: DeviceCall, res: i32) -> DeviceFault
-        ensures* fault { λ r. ⌜ r ≡ record { call = call; result = res } ⌝ }
+        ensures fault { result ≡ record { call = call; result = res } }
         ensures marked { Marked self.old self.new }
     {
         self.mark = true;

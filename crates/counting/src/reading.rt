@@ -1,5 +1,7 @@
 // Opening, and reading back.
 ghost use Rattle.std.specs.Prelude.{◌≡◌, IfOk};
+ghost use Rattle.std.specs.Option.{option_map};
+ghost use Rattle.device.specs.Stored.{described};
 ghost use Rattle.counting.specs.Counting.{meaning_of};
 ghost use Rattle.counting.specs.Reading.{Opened, read_back, tally_of};
 
@@ -34,7 +36,7 @@ impl CountingDevice {
 
     // The descriptor in an element of a binding of a set, if there is one.
     pub fn read_back(&self, set: u64, binding: u32, element: u32) -> Option<Descriptor>
-        ensures { result ≡ read_back (meaning_of self.now) set binding element }
+        ensures { option_map described result ≡ read_back (meaning_of self.now) set binding element }
     {
         let binding = binding as usize;
         let element = element as usize;

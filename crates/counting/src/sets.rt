@@ -1,5 +1,7 @@
 // Sets removed, and written to.
 ghost use Rattle.std.specs.Prelude.{◌≡◌, ◌^◌, ◌<◌};
+ghost use Rattle.std.specs.Option.{option_map};
+ghost use Rattle.device.specs.Stored.{described};
 ghost use Rattle.device.specs.Writes.{lists_of};
 ghost use Rattle.counting.specs.Steps.{in_pool_at, Removed, AllRemoved, PutAt, Filled, Applied};
 
@@ -76,7 +78,7 @@ fn put(
     at: usize,
     descriptor: Option<Descriptor>,
 )
-    ensures { PutAt records.old row at descriptor records.new }
+    ensures { PutAt records.old row at (option_map described descriptor) records.new }
 {
     if let Some(d) = descriptor {
         let _ = records.write(row, at, d);

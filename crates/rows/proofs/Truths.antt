@@ -1,6 +1,6 @@
 -- Tests by their values.
 use Rattle.std.proofs.Common.{◌≡◌, ℕ, Bool, true, false, not, ◌&&◌, ◌||◌, ◌⊎◌, eqb, is_some, Some, None, Option, sym, refl, inl, inr, arith}
-use Rattle.std.proofs.lemmas.Bool.Decides.{eqb_tells}
+use Rattle.std.proofs.lemmas.Bool.Decides.{nat_tests, eqb_tells}
 
 -- a test has one value
 pub clash : {R : Type 0} {b : Bool} → b ≡ true → b ≡ false → R
@@ -50,3 +50,10 @@ met_at k i = by (eqb_tells i k)
     by : ((eqb i k ≡ true) × (i ≡ k)) ⊎ ((eqb i k ≡ false) × (i ≡ k → ⊥)) → ((eqb i k ≡ true) × (k ≡ i)) ⊎ ((eqb i k ≡ false) × (k ≡ i → ⊥))
     by (inl (b, e)) = inl (b, sym e)
     by (inr (b, ne)) = inr (b, λ e. ne (sym e))
+
+pub eqb_turned : (a b : ℕ) → eqb a b ≡ eqb b a
+eqb_turned a b = by (eqb_tells a b)
+  where
+    by : ((eqb a b ≡ true) × (a ≡ b)) ⊎ ((eqb a b ≡ false) × (a ≡ b → ⊥)) → eqb a b ≡ eqb b a
+    by (inl (p, e)) = grind (arith, nat_tests)
+    by (inr (p, ne)) = grind (arith, nat_tests)

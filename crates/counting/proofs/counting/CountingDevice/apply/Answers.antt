@@ -31,7 +31,7 @@ returns-then-not-is_valid_write c =
 pub invariant_of-self-2 : goal.invariant_of-self-2
 invariant_of-self-2 c =
     let d = c.args.self.now in
-    (d.layouts, (d.pools, (d.sets, ((λ i. ap (λ f. f i) c.fill.ensures.lengths ∙ d.sized i), (d.word, tt)))))
+    record { layouts = d.layouts; pools = d.pools; sets = d.sets; sized = λ i. ap (λ f. f i) c.fill.ensures.lengths ∙ d.sized i; word = d.word }
 
 pub returns : goal.returns
 returns c =

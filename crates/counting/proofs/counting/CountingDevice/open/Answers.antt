@@ -9,16 +9,14 @@ use Rattle.counting.proofs.counting.CountingDevice.open.Goals as goal
 pub invariant_of-result : goal.invariant_of-result
 invariant_of-result c =
     let h = c.new-2.result in
-    let new = c.new-2.ensures in (
-      empty_given h.layouts new.layouts,
-      (
-        empty_given h.pools new.pools,
-        (
-          empty_given h.sets new.sets,
-          ((λ i. ap (λ f. f i) c.in_ok-records.ensures.lengths ∙ sym (ap (λ o. held_total (option_map (λ s. record { pool = s.value.pool; bindings = list_of (get_or h.bindings s.value.layout no_bindings) }) o)) (empty_row h.sets new.sets i))), (omega arith, tt)),
-        ),
-      ),
-    )
+    let new = c.new-2.ensures in
+    record {
+      layouts = empty_given h.layouts new.layouts;
+      pools = empty_given h.pools new.pools;
+      sets = empty_given h.sets new.sets;
+      sized = λ i. ap (λ f. f i) c.in_ok-records.ensures.lengths ∙ sym (ap (λ o. held_total (option_map (λ s. record { pool = s.value.pool; bindings = list_of (get_or h.bindings s.value.layout no_bindings) }) o)) (empty_row h.sets new.sets i));
+      word = omega arith;
+    }
 
 pub returns : goal.returns
 returns c =

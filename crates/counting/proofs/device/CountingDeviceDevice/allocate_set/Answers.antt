@@ -33,19 +33,14 @@ invariant_of-self-in-Ok-2 c =
     let n = c.total-total.result in
     let place = c.in-Ok.place in
     let placed = c.in-Ok.ensures in
-    let next = placed_next d n place placed in (
-      given_later d.holdings.layouts d.holdings.layouts (omega (arith, next.0)) d.layouts,
-      (
-        given_change d.holdings.pools c.change.new.self p.row c.with_set.result c.change.ensures (given_later d.holdings.pools d.holdings.pools (omega (arith, next.0)) d.pools),
-        (
-          placed_given d n place placed c.args.pool l.row c.put.new.self c.put.result c.put.ensures.answer c.put.ensures.rows c.make.new.self c.make.result c.make.ensures c.total-total.ensures.is,
-          (
-            placed_sized d n place placed c.args.pool l.row c.put.new.self c.put.result c.put.ensures.answer c.put.ensures.rows c.make.new.self c.make.result c.make.ensures c.total-total.ensures.is,
-            (next.1, tt),
-          ),
-        ),
-      ),
-    )
+    let next = placed_next d n place placed in
+    record {
+      layouts = given_later d.holdings.layouts d.holdings.layouts (omega (arith, next.0)) d.layouts;
+      pools = given_change d.holdings.pools c.change.new.self p.row c.with_set.result c.change.ensures (given_later d.holdings.pools d.holdings.pools (omega (arith, next.0)) d.pools);
+      sets = placed_given d n place placed c.args.pool l.row c.put.new.self c.put.result c.put.ensures.answer c.put.ensures.rows c.make.new.self c.make.result c.make.ensures c.total-total.ensures.is;
+      sized = placed_sized d n place placed c.args.pool l.row c.put.new.self c.put.result c.put.ensures.answer c.put.ensures.rows c.make.new.self c.make.result c.make.ensures c.total-total.ensures.is;
+      word = next.1;
+    }
 
 pub returns-in-Ok : goal.returns-in-Ok
 returns-in-Ok c =
