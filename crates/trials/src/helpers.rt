@@ -59,65 +59,70 @@ pub(crate) fn samplers_to(set: u64, count: u32) -> Write {
 
 // Compares an answer with the handle or the result number that is due, and the call that a refusal names.
 fn check_answer(
+    rt: &impl Abort,
     answer: Result<u64, DeviceFault>,
     call: u32,
     due: Result<u64, i32>,
 ) -> Result<(), Fail> {
     match answer {
         Ok(handle) => {
-            assert_eq!(Ok(handle), due);
+            assert_eq!(rt; Ok(handle), due);
             Ok(())
         },
         Err(fault) => {
-            assert_eq!(fault.call.number(), call);
-            assert_eq!(Err(fault.result), due);
+            assert_eq!(rt; fault.call.number(), call);
+            assert_eq!(rt; Err(fault.result), due);
             Ok(())
         }
     }
 }
 
 pub(crate) fn expect_layout(
+    rt: &impl Abort,
     device: &mut CountingDevice,
     bindings: &[DeviceBinding],
     flags: u32,
     due: Result<u64, i32>,
 ) -> Result<(), Fail> {
-    check_answer(device.create_layout(bindings, flags), 1, due)
+    check_answer(rt, device.create_layout(bindings, flags), 1, due)
 }
 
 pub(crate) fn expect_pool(
+    rt: &impl Abort,
     device: &mut CountingDevice,
     most: u32,
     sizes: &[PoolSize],
     flags: u32,
     due: Result<u64, i32>,
 ) -> Result<(), Fail> {
-    check_answer(device.create_pool(most, sizes, flags), 2, due)
+    check_answer(rt, device.create_pool(most, sizes, flags), 2, due)
 }
 
 // Each call names a pool, a layout and the answer that is due.
 pub(crate) fn expect_sets(
+    rt: &impl Abort,
     device: &mut CountingDevice,
     calls: &[(u64, u64, Result<u64, i32>)],
 ) -> Result<(), Fail> {
     for (pool, layout, due) in calls {
-        check_answer(device.allocate_set(*pool, *layout), 3, *due)?;
+        check_answer(rt, device.allocate_set(*pool, *layout), 3, *due)?;
     }
     Ok(())
 }
 
 // A device with a layout of each of these numbers of samplers, from handle 1 on. One of 0 has no binding.
 pub(crate) fn open_with(
-    rt: &HostRuntime,
+    rt: &(impl Abort + AllocGlobal),
     records: usize,
     samplers: &[u32],
 ) -> Result<CountingDevice, Fail> {
     let mut device = CountingDevice::open(rt.alloc(), records)?;
     for (handle, count) in (1..u64::MAX).zip(samplers.iter()) {
         if *count == 0 {
-            expect_layout(&mut device, &[], 0, Ok(handle))?;
+            expect_layout(rt, &mut device, &[], 0, Ok(handle))?;
         } else {
             expect_layout(
+                rt,
                 &mut device,
                 &[binding(Kind::Sampler, *count)],
                 0,
@@ -129,9 +134,13 @@ pub(crate) fn open_with(
 }
 
 // Layouts, pools, sets and descriptors.
-pub(crate) fn expect_held(device: &CountingDevice, due: [usize; 4]) -> Result<(), Fail> {
+pub(crate) fn expect_held(
+    rt: &impl Abort,
+    device: &CountingDevice,
+    due: [usize; 4],
+) -> Result<(), Fail> {
     let tally = device.tally();
-    assert_eq!(
+    assert_eq!(rt;
         [tally.layouts, tally.pools, tally.sets, tally.descriptors],
         due
     );

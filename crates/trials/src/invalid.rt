@@ -13,10 +13,10 @@ fn check_invalid_layout(
     bindings: &[DeviceBinding],
 ) -> Result<(), Fail> {
     let mut device = CountingDevice::open(rt.alloc(), 8)?;
-    expect_layout(&mut device, bindings, 0, Err(INVALID))?;
+    expect_layout(rt, &mut device, bindings, 0, Err(INVALID))?;
     assert!(rt; device.is_marked());
-    expect_held(&device, [0, 0, 0, 0])?;
-    expect_layout(&mut device, &[], 0, Ok(1))
+    expect_held(rt, &device, [0, 0, 0, 0])?;
+    expect_layout(rt, &mut device, &[], 0, Ok(1))
 }
 
 #[test]
@@ -38,10 +38,10 @@ fn check_invalid_pool(
     sizes: &[PoolSize],
 ) -> Result<(), Fail> {
     let mut device = CountingDevice::open(rt.alloc(), 8)?;
-    expect_pool(&mut device, most, sizes, 1, Err(INVALID))?;
+    expect_pool(rt, &mut device, most, sizes, 1, Err(INVALID))?;
     assert!(rt; device.is_marked());
-    expect_held(&device, [0, 0, 0, 0])?;
-    expect_pool(&mut device, 1, &[], 1, Ok(1))
+    expect_held(rt, &device, [0, 0, 0, 0])?;
+    expect_pool(rt, &mut device, 1, &[], 1, Ok(1))
 }
 
 #[test]
@@ -66,15 +66,19 @@ fn invalid_pools(rt: HostRuntime) -> Result<(), Fail> {
 }
 
 // Layouts 1 and 2 have a sampler, and 2 is for update after bind. Pool 3 has a place for one set, and is not.
-fn check_invalid_set(rt: &HostRuntime, pool: u64, layout: u64) -> Result<(), Fail> {
+fn check_invalid_set(rt: &(impl Abort + AllocGlobal), pool: u64, layout: u64) -> Result<(), Fail> {
     let mut device = open_with(rt, 8, &[1])?;
-    expect_layout(&mut device, &[binding(Kind::Sampler, 1)], 2, Ok(2))?;
-    expect_pool(&mut device, 1, &[size(Kind::Sampler, 1)], 1, Ok(3))?;
-    expect_sets(&mut device, &[(pool, layout, Err(INVALID))])?;
-    assert!(device.is_marked());
-    expect_held(&device, [2, 1, 0, 0])?;
+    expect_layout(rt, &mut device, &[binding(Kind::Sampler, 1)], 2, Ok(2))?;
+    expect_pool(rt, &mut device, 1, &[size(Kind::Sampler, 1)], 1, Ok(3))?;
+    expect_sets(rt, &mut device, &[(pool, layout, Err(INVALID))])?;
+    assert!(rt; device.is_marked());
+    expect_held(rt, &device, [2, 1, 0, 0])?;
     // with the pool exhausted it is -13 all the same
-    expect_sets(&mut device, &[(3, 1, Ok(4)), (pool, layout, Err(INVALID))])
+    expect_sets(
+        rt,
+        &mut device,
+        &[(3, 1, Ok(4)), (pool, layout, Err(INVALID))],
+    )
 }
 
 #[test]
@@ -85,9 +89,9 @@ fn invalid_sets(rt: HostRuntime) -> Result<(), Fail> {
     }
     // a pool for update after bind takes sets of both sorts of layout
     let mut device = open_with(&rt, 8, &[0])?;
-    expect_layout(&mut device, &[], 2, Ok(2))?;
-    expect_pool(&mut device, 2, &[], 3, Ok(3))?;
-    expect_sets(&mut device, &[(3, 1, Ok(4)), (3, 2, Ok(5))])?;
+    expect_layout(&rt, &mut device, &[], 2, Ok(2))?;
+    expect_pool(&rt, &mut device, 2, &[], 3, Ok(3))?;
+    expect_sets(&rt, &mut device, &[(3, 1, Ok(4)), (3, 2, Ok(5))])?;
     assert!(rt; !device.is_marked());
     Ok(())
 }
@@ -97,9 +101,9 @@ fn is_marked_by(rt: &(impl Abort + AllocGlobal), write: Write) -> Result<bool, F
     let mut device = CountingDevice::open(rt.alloc(), 8)?;
     let bindings = [binding(Kind::Sampler, 2), binding(Kind::UniformBuffer, 1)];
     let sizes = [size(Kind::Sampler, 2), size(Kind::UniformBuffer, 1)];
-    expect_layout(&mut device, &bindings, 0, Ok(1))?;
-    expect_pool(&mut device, 1, &sizes, 1, Ok(2))?;
-    expect_sets(&mut device, &[(2, 1, Ok(3))])?;
+    expect_layout(rt, &mut device, &bindings, 0, Ok(1))?;
+    expect_pool(rt, &mut device, 1, &sizes, 1, Ok(2))?;
+    expect_sets(rt, &mut device, &[(2, 1, Ok(3))])?;
     let buffer = BufferRecord {
         buffer: 7,
         offset: 0,
@@ -111,7 +115,7 @@ fn is_marked_by(rt: &(impl Abort + AllocGlobal), write: Write) -> Result<bool, F
         &[buffer],
         &[],
     );
-    expect_held(&device, [1, 1, 1, 3])?;
+    expect_held(rt, &device, [1, 1, 1, 3])?;
     let marked = device.is_marked();
     let written = device.read_back(3, 0, 0).is_some()
         || device.read_back(3, 0, 1).is_some()
@@ -203,9 +207,9 @@ fn invalid_writes(rt: HostRuntime) -> Result<(), Fail> {
 #[test]
 fn nothing_there(rt: HostRuntime) -> Result<(), Fail> {
     let mut device = open_with(&rt, 8, &[0])?;
-    expect_pool(&mut device, 1, &[], 1, Ok(2))?;
-    expect_pool(&mut device, 1, &[], 1, Ok(3))?;
-    expect_sets(&mut device, &[(2, 1, Ok(4))])?;
+    expect_pool(&rt, &mut device, 1, &[], 1, Ok(2))?;
+    expect_pool(&rt, &mut device, 1, &[], 1, Ok(3))?;
+    expect_sets(&rt, &mut device, &[(2, 1, Ok(4))])?;
     for other in [0, 4, 9] {
         device.destroy_layout(other);
         device.destroy_pool(other);
@@ -214,13 +218,13 @@ fn nothing_there(rt: HostRuntime) -> Result<(), Fail> {
     device.destroy_layout(2);
     device.destroy_pool(1);
     assert!(rt; !device.free_set(3, 4) && !device.free_set(2, 9));
-    expect_held(&device, [1, 2, 1, 0])?;
+    expect_held(&rt, &device, [1, 2, 1, 0])?;
     assert!(rt; device.free_set(2, 4) && !device.free_set(2, 4));
     for _ in 0..2 {
         device.destroy_pool(2);
         device.destroy_layout(1);
     }
-    expect_held(&device, [0, 1, 0, 0])?;
+    expect_held(&rt, &device, [0, 1, 0, 0])?;
     assert!(rt; !device.is_marked());
     Ok(())
 }

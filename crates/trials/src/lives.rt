@@ -16,8 +16,9 @@ fn write_own(device: &mut CountingDevice, sets: &[u64]) {
 #[test]
 fn gaps(rt: HostRuntime) -> Result<(), Fail> {
     let mut device = open_with(&rt, 5, &[1, 3])?;
-    expect_pool(&mut device, 9, &[size(Kind::Sampler, 9)], 1, Ok(3))?;
+    expect_pool(&rt, &mut device, 9, &[size(Kind::Sampler, 9)], 1, Ok(3))?;
     expect_sets(
+        &rt,
         &mut device,
         &[
             (3, 1, Ok(4)),
@@ -29,7 +30,7 @@ fn gaps(rt: HostRuntime) -> Result<(), Fail> {
     )?;
     write_own(&mut device, &[4, 5, 6, 7, 8]);
     assert!(rt; device.free_set(3, 4) && device.free_set(3, 6) && device.free_set(3, 8));
-    expect_sets(&mut device, &[(3, 2, Ok(9))])?;
+    expect_sets(&rt, &mut device, &[(3, 2, Ok(9))])?;
     // a new set holds nothing, also where an old one lay
     expect_samplers(
         &rt,
@@ -60,7 +61,7 @@ fn gaps(rt: HostRuntime) -> Result<(), Fail> {
         ],
     )?;
     expect_samplers(&rt, &device, &[(4, 0, None), (6, 0, None), (8, 0, None)])?;
-    expect_held(&device, [2, 1, 3, 5])?;
+    expect_held(&rt, &device, [2, 1, 3, 5])?;
     assert!(rt; !device.is_marked());
     Ok(())
 }
@@ -69,9 +70,9 @@ fn gaps(rt: HostRuntime) -> Result<(), Fail> {
 #[test]
 fn new_sets(rt: HostRuntime) -> Result<(), Fail> {
     let mut device = open_with(&rt, 2, &[2])?;
-    expect_pool(&mut device, 1, &[size(Kind::Sampler, 2)], 1, Ok(2))?;
+    expect_pool(&rt, &mut device, 1, &[size(Kind::Sampler, 2)], 1, Ok(2))?;
     for set in 3..6 {
-        expect_sets(&mut device, &[(2, 1, Ok(set))])?;
+        expect_sets(&rt, &mut device, &[(2, 1, Ok(set))])?;
         assert!(rt; device.read_back(set, 0, 0).is_none() && device.read_back(set, 0, 1).is_none());
         device.update_sets(&[samplers_to(set, 2)], &[sampler(0), sampler(9)], &[], &[]);
         expect_samplers(
@@ -90,31 +91,32 @@ fn new_sets(rt: HostRuntime) -> Result<(), Fail> {
 fn destroyed_layout(rt: HostRuntime) -> Result<(), Fail> {
     let mut device = open_with(&rt, 8, &[2])?;
     for handle in 2..65 {
-        expect_layout(&mut device, &[], 0, Ok(handle))?;
+        expect_layout(&rt, &mut device, &[], 0, Ok(handle))?;
     }
-    expect_pool(&mut device, 2, &[size(Kind::Sampler, 4)], 1, Ok(65))?;
-    expect_sets(&mut device, &[(65, 1, Ok(66)), (65, 1, Ok(67))])?;
+    expect_pool(&rt, &mut device, 2, &[size(Kind::Sampler, 4)], 1, Ok(65))?;
+    expect_sets(&rt, &mut device, &[(65, 1, Ok(66)), (65, 1, Ok(67))])?;
     device.destroy_layout(1);
-    expect_held(&device, [63, 1, 2, 4])?;
-    expect_layout(&mut device, &[], 0, Err(NO_ROW))?;
+    expect_held(&rt, &device, [63, 1, 2, 4])?;
+    expect_layout(&rt, &mut device, &[], 0, Err(NO_ROW))?;
     assert!(rt; device.free_set(65, 66));
-    expect_layout(&mut device, &[], 0, Err(NO_ROW))?;
+    expect_layout(&rt, &mut device, &[], 0, Err(NO_ROW))?;
     // its set is as it was
     device.update_sets(&[samplers_to(67, 2)], &[sampler(1), sampler(2)], &[], &[]);
     expect_samplers(&rt, &device, &[(67, 0, Some(1)), (67, 1, Some(2))])?;
     assert!(rt; device.free_set(65, 67) && !device.is_marked());
-    expect_layout(&mut device, &[], 0, Ok(68))?;
-    expect_held(&device, [64, 1, 0, 0])?;
-    expect_sets(&mut device, &[(65, 1, Err(INVALID))])
+    expect_layout(&rt, &mut device, &[], 0, Ok(68))?;
+    expect_held(&rt, &device, [64, 1, 0, 0])?;
+    expect_sets(&rt, &mut device, &[(65, 1, Err(INVALID))])
 }
 
 // Pool 2 has sets 4 and 6, pool 3 has set 5, and the device is full.
 #[test]
 fn destroyed_pool(rt: HostRuntime) -> Result<(), Fail> {
     let mut device = open_with(&rt, 3, &[1])?;
-    expect_pool(&mut device, 2, &[size(Kind::Sampler, 2)], 1, Ok(2))?;
-    expect_pool(&mut device, 4, &[size(Kind::Sampler, 4)], 1, Ok(3))?;
+    expect_pool(&rt, &mut device, 2, &[size(Kind::Sampler, 2)], 1, Ok(2))?;
+    expect_pool(&rt, &mut device, 4, &[size(Kind::Sampler, 4)], 1, Ok(3))?;
     expect_sets(
+        &rt,
         &mut device,
         &[
             (2, 1, Ok(4)),
@@ -125,11 +127,11 @@ fn destroyed_pool(rt: HostRuntime) -> Result<(), Fail> {
     )?;
     write_own(&mut device, &[4, 5, 6]);
     device.destroy_pool(2);
-    expect_held(&device, [1, 1, 1, 1])?;
+    expect_held(&rt, &device, [1, 1, 1, 1])?;
     expect_samplers(&rt, &device, &[(4, 0, None), (5, 0, Some(5)), (6, 0, None)])?;
     assert!(rt; !device.free_set(2, 4));
-    expect_sets(&mut device, &[(3, 1, Ok(7)), (3, 1, Ok(8))])?;
+    expect_sets(&rt, &mut device, &[(3, 1, Ok(7)), (3, 1, Ok(8))])?;
     expect_samplers(&rt, &device, &[(5, 0, Some(5)), (7, 0, None), (8, 0, None)])?;
     assert!(rt; !device.is_marked());
-    expect_sets(&mut device, &[(2, 1, Err(INVALID))])
+    expect_sets(&rt, &mut device, &[(2, 1, Err(INVALID))])
 }

@@ -4,6 +4,7 @@ use conversion::kinds::Kind;
 use counting::counting::CountingDevice;
 use device::meaning::Device;
 use device::records::{AccelerationRecord, BufferRecord, Content, ImageRecord, Write};
+use std::process::Abort;
 use std::test::*;
 
 // The type number in element 0 of a binding of set 3, and the numbers of its record.
@@ -46,7 +47,7 @@ fn acceleration_at(device: &CountingDevice, binding: u32) -> Option<(u32, u64)> 
 }
 
 // Layout 1 has a binding of each kind, in key order; that of the sampled image has two elements. Set 3 is in pool 2.
-fn open_with_each_kind(rt: &HostRuntime) -> Result<CountingDevice, Fail> {
+fn open_with_each_kind(rt: &(impl Abort + AllocGlobal)) -> Result<CountingDevice, Fail> {
     let mut device = CountingDevice::open(rt.alloc(), 9)?;
     let bindings = [
         binding(Kind::Sampler, 1),
@@ -68,9 +69,9 @@ fn open_with_each_kind(rt: &HostRuntime) -> Result<CountingDevice, Fail> {
         size(Kind::StorageBufferDynamic, 1),
         size(Kind::AccelerationStructure, 1),
     ];
-    expect_layout(&mut device, &bindings, 0, Ok(1))?;
-    expect_pool(&mut device, 1, &sizes, 1, Ok(2))?;
-    expect_sets(&mut device, &[(2, 1, Ok(3))])?;
+    expect_layout(rt, &mut device, &bindings, 0, Ok(1))?;
+    expect_pool(rt, &mut device, 1, &sizes, 1, Ok(2))?;
+    expect_sets(rt, &mut device, &[(2, 1, Ok(3))])?;
     Ok(device)
 }
 
@@ -161,8 +162,8 @@ fn each_kind(rt: HostRuntime) -> Result<(), Fail> {
 #[test]
 fn order(rt: HostRuntime) -> Result<(), Fail> {
     let mut device = open_with(&rt, 6, &[3])?;
-    expect_pool(&mut device, 2, &[size(Kind::Sampler, 6)], 1, Ok(2))?;
-    expect_sets(&mut device, &[(2, 1, Ok(3)), (2, 1, Ok(4))])?;
+    expect_pool(&rt, &mut device, 2, &[size(Kind::Sampler, 6)], 1, Ok(2))?;
+    expect_sets(&rt, &mut device, &[(2, 1, Ok(3)), (2, 1, Ok(4))])?;
     let images = [sampler(11), sampler(12), sampler(13), sampler(14)];
     // of two writes to element 0 the later counts, and element 1 keeps the earlier
     let later = Write {
