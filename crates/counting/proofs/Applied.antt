@@ -1,5 +1,5 @@
 -- A valid write, and the sets afterwards.
-use Rattle.std.proofs.Common.{◌≡◌, ℕ, ◌+◌, ◌-◌, ◌<◌, ◌≤◌, Bool, true, false, cond, not, ◌&&◌, ◌||◌, eqb, ltb, leb, ◌⊎◌, List, [], ◌∷◌, get_or, is_some, Some, None, Option, sym, refl, ap, ◌∙◌, subst, ap₂, inl, inr, arith}
+use Rattle.std.proofs.Common.{◌≡◌, ℕ, ◌+◌, ◌-◌, ◌<◌, ◌≤◌, Bool, true, false, cond, ◌&&◌, eqb, ltb, leb, ◌⊎◌, List, [], ◌∷◌, get_or, is_some, Some, None, Option, sym, refl, ap, ◌∙◌, subst, ap₂, inl, inr, arith}
 use mathlib.Core.Path.{fun_ext}
 use Rattle.std.proofs.lemmas.Bool.Decides.{nat_tests, eqb_tells, leb_tells}
 use Rattle.std.specs.List.{slice_get}
@@ -9,7 +9,7 @@ use Rattle.conversion.specs.declared.bindings.DeviceBinding.{DeviceBinding}
 use Rattle.device.specs.Meaning.{Descriptor}
 use Rattle.device.specs.declared.records.Write.{Write}
 use Rattle.device.specs.Meaning.{LiveSet}
-use Rattle.device.specs.Writes.{Lists, descriptor_of, valid_for, valid_in, valid, covers, last_to, holding, set_after, after_writes, some_invalid}
+use Rattle.device.specs.Writes.{Lists, descriptor_of, valid_for, valid_in, valid, covers, last_to, holding, set_after, after_writes}
 use Rattle.segments.specs.Segments.{length_at}
 use Rattle.rows.specs.declared.holdings.SetRow.{SetRow}
 use Rattle.rows.specs.Bindings.{list_of, total_of, start_of}
@@ -22,7 +22,7 @@ use Rattle.counting.specs.Counting.{stored, Records, elements, written_in, live_
 use Rattle.counting.specs.Steps.{descriptor_for, Filled}
 use Rattle.rows.proofs.Truths.{clash, and_false, and_true}
 use Rattle.counting.proofs.Applying.{ends_before, ends_within, valid_room, valid_there}
-use Rattle.counting.proofs.Places.{set_lives, live_same}
+use Rattle.counting.proofs.Places.{set_lives}
 
 -- the row of a set, with its bindings, and one write to it that is valid there
 module _ (r s : Records) (row : ℕ) (bs : List DeviceBinding) (w : Write) (l : Lists) (ok : true ≡ valid_for l w (slice_get bs w.binding)) (long : length_at r row ≡ total_of bs) (filled : Filled r row (start_of bs w.binding) w w.count l s) where

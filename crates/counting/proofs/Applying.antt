@@ -1,23 +1,20 @@
 -- One write, by what each element holds.
-use Rattle.std.proofs.Common.{◌≡◌, ℕ, zero, suc, ◌+◌, ◌-◌, ◌<◌, ◌≤◌, Bool, true, false, cond, not, ◌&&◌, ◌||◌, eqb, ltb, leb, ◌⊎◌, List, [], ◌∷◌, length, get_or, take, drop, is_some, Some, None, Option, sym, refl, ap, ◌∙◌, subst, ap₂, inl, inr, arith}
-use native.Mathlib.Decide.{dec_lt}
+use Rattle.std.proofs.Common.{◌≡◌, ℕ, zero, suc, ◌+◌, ◌<◌, ◌≤◌, Bool, true, false, not, ◌||◌, eqb, leb, List, [], ◌∷◌, length, get_or, take, drop, is_some, Some, None, Option, sym, refl, ap, ◌∙◌, ap₂, arith}
 use mathlib.Core.Path.{fun_ext}
 use Rattle.std.proofs.lemmas.List.{take_all, drop_more}
 use Rattle.std.proofs.lemmas.List.Sums.{sum_by-cons}
-use Rattle.std.proofs.lemmas.Bool.Decides.{nat_tests, eqb_tells, leb_tells}
+use Rattle.std.proofs.lemmas.Bool.Decides.{nat_tests}
 use Rattle.std.specs.List.{slice_get}
-use Rattle.std.specs.Option.{option_map, option_or, option_flatten}
+use Rattle.std.specs.Option.{option_map}
 use Rattle.conversion.specs.Kinds.{kind_of_type}
 use Rattle.conversion.specs.declared.kinds.Kind.{Kind}
 use Rattle.conversion.specs.declared.bindings.DeviceBinding.{DeviceBinding}
-use Rattle.device.specs.Meaning.{Content}
 use Rattle.device.specs.Meaning.{image, buffer, acceleration}
-use Rattle.device.specs.Meaning.{Descriptor}
 use Rattle.device.specs.declared.records.RecordList.{RecordList}
 use Rattle.device.specs.declared.records.RecordList.TheVariants.{Images, Buffers, Accelerations}
 use Rattle.device.specs.declared.records.Write.{Write}
 use Rattle.device.specs.Meaning.{LiveSet}
-use Rattle.device.specs.Writes.{Lists, records_of, length_of, content_at, lies, descriptor, descriptor_of, fits, valid_for, valid_in, valid, covers, last_to, holding, set_after, after_writes, some_invalid}
+use Rattle.device.specs.Writes.{Lists, records_of, length_of, content_at, lies, descriptor, descriptor_of, fits, valid_for, valid, covers, last_to, holding, set_after, after_writes, some_invalid}
 use Rattle.device.proofs.Ordered.{writes_in_order}
 use Rattle.rows.specs.Bindings.{total_of, start_of}
 use Rattle.counting.specs.Counting.{elements}

@@ -1,5 +1,5 @@
 -- Making a layout.
-use Rattle.std.proofs.Common.{◌≡◌, ℕ, ◌+◌, ◌<◌, ◌≤◌, Bool, true, false, cond, ◌&&◌, ◌||◌, eqb, leb, List, length, set, is_some, Some, Ok, Err, sym, refl, ap, ◌∙◌, arith}
+use Rattle.std.proofs.Common.{◌≡◌, ℕ, ◌+◌, ◌<◌, Bool, true, false, cond, ◌&&◌, eqb, leb, List, length, set, is_some, Some, Ok, ap, ◌∙◌, arith}
 use Rattle.std.specs.Map.{update}
 use Rattle.conversion.specs.declared.bindings.DeviceBinding.{DeviceBinding}
 use Rattle.device.specs.Calls.{invalid_layout, layout_answer}

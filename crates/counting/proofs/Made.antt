@@ -1,11 +1,8 @@
 -- What is held once something is made, or gone.
-use Rattle.std.proofs.Common.{◌≡◌, ℕ, ◌+◌, ◌<◌, ◌≤◌, Bool, true, false, cond, not, ◌&&◌, ◌||◌, eqb, ltb, ◌⊎◌, List, length, get_or, set, is_some, Some, None, Option, sym, refl, ap, ◌∙◌, subst, inl, inr, arith, get_or-set_other, get_or-set_same}
-use mathlib.Core.Path.{fun_ext}
+use Rattle.std.proofs.Common.{◌≡◌, ℕ, ◌<◌, Bool, true, cond, eqb, List, length, get_or, set, Some, None, Option, sym, ap, ◌∙◌, get_or-set_other, get_or-set_same}
 use Rattle.std.proofs.lemmas.Map.{update_here, update_apart}
 use Rattle.std.specs.Map.{update}
 use Rattle.std.specs.Option.{option_map}
-use Rattle.device.specs.Meaning.{LiveLayout, LivePool}
-use Rattle.rows.specs.declared.slots.Slot.{Slot}
 use Rattle.rows.specs.declared.table.Table.{Table}
 use Rattle.rows.specs.declared.bindings.Bindings.{Bindings}
 use Rattle.rows.specs.declared.pools.PoolRow.{PoolRow}

@@ -1,5 +1,5 @@
 -- A set put into its row, with records for its descriptors.
-use Rattle.std.proofs.Common.{◌≡◌, ℕ, ◌+◌, ◌<◌, ◌≤◌, Bool, true, false, cond, ◌&&◌, eqb, ltb, leb, List, get_or, ℤ, is_some, Some, None, Ok, Err, Option, Result, sym, refl, ap, ◌∙◌, arith}
+use Rattle.std.proofs.Common.{◌≡◌, ℕ, ◌+◌, ◌<◌, Bool, true, false, cond, ◌&&◌, eqb, ltb, leb, List, get_or, ℤ, is_some, Some, None, Ok, Err, Option, Result, sym, refl, ap, ◌∙◌, arith}
 use mathlib.Core.Path.{fun_ext}
 use Rattle.std.proofs.lemmas.Bool.Decides.{nat_tests}
 use Rattle.std.specs.Map.{update}
@@ -16,7 +16,7 @@ use Rattle.rows.specs.declared.table.Table.{Table}
 use Rattle.rows.specs.declared.holdings.SetRow.{SetRow}
 use Rattle.rows.specs.Bindings.{list_of, start_of, total_of}
 use Rattle.rows.specs.Tables.{slot, slot_at, row_of, unused_row, can_put}
-use Rattle.rows.specs.Holdings.{HeldSet, bindings_at, held_in, held_total, set_at, total_at, found_by, no_bindings}
+use Rattle.rows.specs.Holdings.{bindings_at, held_in, held_total, set_at, total_at, found_by, no_bindings}
 use Rattle.rows.proofs.Meant.{found_put}
 use Rattle.counting.specs.declared.counting.CountingDevice.{CountingDevice}
 use Rattle.counting.specs.declared.calls.Place.{Place}

@@ -1,5 +1,5 @@
 -- Sets made and removed.
-use Rattle.std.proofs.Common.{◌≡◌, ℕ, ◌+◌, ◌<◌, ◌≤◌, Bool, true, false, cond, not, ◌&&◌, ◌||◌, eqb, ltb, leb, ◌⊎◌, List, length, get_or, set, is_some, Some, None, Option, sym, refl, ap, ◌∙◌, subst, ap₂, inl, inr, arith}
+use Rattle.std.proofs.Common.{◌≡◌, ℕ, ◌+◌, ◌<◌, ◌≤◌, Bool, true, false, cond, ◌&&◌, eqb, ltb, leb, ◌⊎◌, List, get_or, is_some, Some, None, Option, sym, refl, ap, ◌∙◌, ap₂, inl, inr, arith}
 use mathlib.Core.Path.{fun_ext}
 use Rattle.std.proofs.lemmas.Bool.Decides.{nat_tests, eqb_tells, leb_tells}
 use Rattle.std.specs.Map.{update}
@@ -20,14 +20,14 @@ use Rattle.rows.specs.declared.holdings.Holdings.{Holdings}
 use Rattle.rows.specs.declared.holdings.SetRow.{SetRow}
 use Rattle.rows.specs.declared.pools.PoolRow.{PoolRow}
 use Rattle.rows.specs.Pools.{live_pool}
-use Rattle.rows.specs.Bindings.{list_of, start_of, total_of}
-use Rattle.rows.specs.Tables.{slot, slot_at, row_of, can_put}
+use Rattle.rows.specs.Bindings.{list_of, start_of}
+use Rattle.rows.specs.Tables.{slot, slot_at, row_of}
 use Rattle.rows.specs.Holdings.{HeldSet, layout_in, layouts_of, pool_in, pools_of, bindings_at, set_at, held_in, held_total, found_by, no_bindings}
-use Rattle.rows.proofs.Meant.{found_put, found_clear, found_kept, found_used}
+use Rattle.rows.proofs.Meant.{found_clear, found_kept, found_used}
 use Rattle.counting.specs.declared.counting.CountingDevice.{CountingDevice}
 use Rattle.counting.specs.Steps.{is_of, in_pool_at, SameRest, Removed, AllRemoved}
 use Rattle.counting.specs.Counting.{stored, sets_of, Records, elements, written_in, live_of, live_in}
-use Rattle.rows.proofs.Truths.{clash, and_false, eqb_turned}
+use Rattle.rows.proofs.Truths.{and_false, eqb_turned}
 use Rattle.counting.proofs.Made.{slot_here, slot_apart}
 
 -- a record cleared, or not, and what it says

@@ -1,5 +1,5 @@
 -- Making a pool.
-use Rattle.std.proofs.Common.{◌≡◌, ℕ, ◌+◌, ◌<◌, Bool, true, false, cond, eqb, List, is_some, Some, None, Ok, Option, sym, refl, ap, ◌∙◌, arith}
+use Rattle.std.proofs.Common.{◌≡◌, ℕ, ◌+◌, ◌<◌, Bool, true, false, cond, eqb, List, is_some, Some, None, Ok, refl, arith}
 use Rattle.std.specs.Map.{update}
 use Rattle.device.specs.declared.records.PoolSize.{PoolSize}
 use Rattle.device.specs.Calls.{invalid_pool, pool_answer}

@@ -4,10 +4,9 @@ use Rattle.std.proofs.lemmas.Bool.Decides.{nat_tests, eqb_tells}
 use Rattle.std.specs.Map.{update}
 use Rattle.std.specs.Option.{option_map, option_or}
 use Rattle.device.specs.declared.faults.DeviceFault.{DeviceFault}
-use Rattle.device.specs.Meaning.{Descriptor}
 use Rattle.device.specs.declared.records.Write.{Write}
 use Rattle.device.specs.Meaning.{State, LiveLayout, LivePool, LiveSet, unfit, exhausted, binding_counts}
-use Rattle.device.specs.Results.{unknown, out_of_pool, answered}
+use Rattle.device.specs.Results.{out_of_pool, answered}
 use Rattle.device.specs.Writes.{Lists, valid_in, valid, covers, last_to, holding, set_after, after_writes}
 use Rattle.device.specs.Calls.{Added, unless_invalid, invalid_layout, invalid_pool, layout_answer, pool_answer, set_from, set_answer, outside, lives_in, new_set, bindings_in}
 use Rattle.device.specs.Requests.{Request, create_layout, destroy_layout, create_pool, destroy_pool, allocate_set, free_set, update_sets}
@@ -17,9 +16,9 @@ use Rattle.rows.specs.Bindings.{total_of}
 use Rattle.rows.specs.Tables.{unused_row}
 use Rattle.rows.specs.Holdings.{free_layout_row, layouts_of, pools_of}
 use Rattle.counting.specs.declared.counting.CountingDevice.{CountingDevice}
-use Rattle.counting.specs.Counting.{meaning_of, next_handle, fixed_layout, fixed_pool, fixed_set, in_row, last_after, last_then, Counted}
+use Rattle.counting.specs.Counting.{meaning_of, next_handle, fixed_layout, fixed_pool, fixed_set, in_row, last_after, Counted}
 use Rattle.counting.specs.Reading.{held_by, read_back}
-use Rattle.counting.specs.Runs.{given, Held, Event, Reaches, is_given, Never, Once, then_held, last_written, HandlesOnce, ReadsBack}
+use Rattle.counting.specs.Runs.{given, Held, Event, Reaches, is_given, Never, then_held, HandlesOnce, ReadsBack}
 use Rattle.counting.specs.Kept.{next_is, in_row_lem}
 use Rattle.rows.proofs.Truths.{and_false, and_true, eqb_turned}
 use Rattle.counting.proofs.Placed.{in_records_lem}

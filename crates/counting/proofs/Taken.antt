@@ -1,9 +1,8 @@
 -- Making a set.
-use Rattle.std.proofs.Common.{◌≡◌, ℕ, ◌+◌, ◌^◌, ◌<◌, ◌≤◌, Bool, true, false, cond, not, ◌&&◌, ◌||◌, eqb, ltb, leb, ◌⊎◌, List, [], ◌∷◌, get_or, ℤ, is_some, Some, None, Ok, Err, Option, Result, sym, refl, ap, ◌∙◌, ap₂, inl, inr, arith}
+use Rattle.std.proofs.Common.{◌≡◌, ℕ, ◌+◌, ◌^◌, ◌<◌, Bool, true, false, cond, not, ◌&&◌, ◌||◌, eqb, ltb, leb, get_or, ℤ, is_some, Some, None, Ok, Err, Option, Result, sym, refl, ap, ◌∙◌, ap₂, arith}
 use mathlib.Core.Path.{fun_ext}
 use Rattle.std.proofs.lemmas.Bool.Decides.{nat_tests}
 use Rattle.std.specs.Map.{update}
-use Rattle.std.specs.List.{slice_get}
 use Rattle.std.specs.Option.{option_map, option_flatten}
 use Rattle.conversion.specs.Lists.{any}
 use Rattle.conversion.specs.Kinds.{kinds}
@@ -11,19 +10,17 @@ use Rattle.conversion.specs.Counts.{counts_by, count_of}
 use Rattle.conversion.specs.declared.kinds.Kind.{Kind}
 use Rattle.conversion.specs.declared.kinds.Kind.TheVariants.{Sampler, SampledImage, StorageImage, UniformBuffer, UniformBufferDynamic, StorageBuffer, StorageBufferDynamic, AccelerationStructure}
 use Rattle.conversion.specs.declared.counts.DescriptorCounts.{DescriptorCounts}
-use Rattle.conversion.specs.declared.bindings.DeviceBinding.{DeviceBinding}
 use Rattle.conversion.proofs.Numbers.{by_kind}
 use Rattle.device.specs.Meaning.{State, LivePool, LiveLayout, LiveSet, sum_below, in_pool, live_sets, in_use, exhausted, unfit, after_bind, binding_counts, remembering}
 use Rattle.conversion.specs.declared.results.DeviceCall.TheVariants.{Set}
 use Rattle.device.specs.declared.faults.DeviceFault.{DeviceFault}
 use Rattle.device.specs.Results.{no_host_memory, no_device_memory, out_of_pool, answered}
-use Rattle.device.specs.Calls.{SetMade, unless_invalid, set_answer, invalid_set, sets_mark, new_set, bindings_in, remembered}
+use Rattle.device.specs.Calls.{SetMade, unless_invalid, set_answer, invalid_set, sets_mark, bindings_in, remembered}
 use Rattle.device.proofs.Below.{below_same}
-use Rattle.segments.specs.Segments.{size, used}
+use Rattle.segments.specs.Segments.{size}
 use Rattle.rows.specs.declared.table.Table.{Table}
 use Rattle.rows.specs.declared.pools.PoolRow.{PoolRow}
 use Rattle.rows.specs.declared.holdings.Holdings.{Holdings}
-use Rattle.rows.specs.Slots.{is_handle}
 use Rattle.rows.specs.Bindings.{list_of, kind_count, at_most, total_of}
 use Rattle.rows.specs.Pools.{live_pool}
 use Rattle.rows.specs.Tables.{slot, slot_at, row_of, unused_row, changed}
@@ -31,8 +28,7 @@ use Rattle.rows.specs.Holdings.{HeldSet, found_by, layout_in, layouts_of, pool_i
 use Rattle.rows.proofs.Meant.{found_sum}
 use Rattle.counting.specs.declared.counting.CountingDevice.{CountingDevice}
 use Rattle.counting.specs.Steps.{Marked}
-use Rattle.counting.specs.Counting.{sets_of, live_of, live_in, meaning_of, fixed_set, next_handle, in_records}
-use Rattle.counting.specs.Counting as c
+use Rattle.counting.specs.Counting.{sets_of, live_of, live_in, meaning_of, fixed_set}
 use Rattle.rows.proofs.Truths.{or_both}
 use Rattle.counting.proofs.Made.{pools_change}
 

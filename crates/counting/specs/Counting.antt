@@ -1,10 +1,9 @@
 -- What the counting device means. Assumes nothing.
-use Rattle.std.specs.Prelude.{◌≡◌, ℕ, ◌+◌, Bool, true, false, cond, ◌&&◌, List, [], length, ℤ, is_some, Some, None, Ok, Err, Option, Result, nat_le, nat_lt}
+use Rattle.std.specs.Prelude.{◌≡◌, ℕ, ◌+◌, Bool, cond, ◌&&◌, List, length, ℤ, is_some, Some, None, Ok, Err, Option, Result, nat_le, nat_lt}
 use Rattle.std.specs.List.{slice_get}
 use Rattle.std.specs.Option.{option_map}
 use Rattle.conversion.specs.declared.bindings.DeviceBinding.{DeviceBinding}
 use Rattle.device.specs.declared.records.Descriptor as kept
-use Rattle.device.specs.declared.records.PoolSize.{PoolSize}
 use Rattle.device.specs.Meaning.{State, LiveSet, Descriptor, sum_below}
 use Rattle.device.specs.Stored.{described}
 use Rattle.device.specs.Results.{no_host_memory, no_device_memory}

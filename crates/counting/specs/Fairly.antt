@@ -1,6 +1,6 @@
 -- What the counting device fixes is allowed.
-use Rattle.std.specs.Prelude.{◌≡◌, ℕ, ◌+◌, ◌^◌, ◌<◌, Bool, true, false, cond, ◌&&◌, ◌⊎◌, ◌∷◌, length, ℤ, is_some, Some, None, Ok, Err, Option, Result, MatchResult, nat_le, nat_lt, refl}
-use Rattle.std.proofs.Common.{arith, sym, ap, subst, ◌∙◌, inl, inr}
+use Rattle.std.specs.Prelude.{◌≡◌, ℕ, ◌+◌, Bool, true, false, cond, ◌&&◌, ◌∷◌, length, ℤ, is_some, Ok, Err, Option, Result, MatchResult, nat_le, nat_lt, refl}
+use Rattle.std.proofs.Common.{arith, sym, ap, subst, inl, inr}
 use Rattle.std.specs.Option.{option_map, option_flatten}
 use Rattle.device.specs.Meaning.{sum_below}
 use Rattle.device.specs.Results.{no_host_memory, no_device_memory, fragmentation}

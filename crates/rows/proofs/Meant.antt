@@ -1,18 +1,18 @@
 -- What stands under handles, by what stands in rows.
-use Rattle.std.proofs.Common.{◌≡◌, ℕ, zero, suc, ◌+◌, ◌<◌, ◌≤◌, Bool, true, false, cond, not, eqb, ◌⊎◌, is_some, Some, None, Option, sym, refl, ap, ◌∙◌, subst, inl, inr, add-one, arith}
+use Rattle.std.proofs.Common.{◌≡◌, ℕ, zero, suc, ◌+◌, ◌<◌, Bool, true, false, cond, eqb, ◌⊎◌, is_some, Some, None, Option, sym, refl, ap, ◌∙◌, subst, inl, inr, add-one, arith}
 use mathlib.Core.Path.{fun_ext}
-use Rattle.std.proofs.lemmas.Bool.Decides.{nat_tests, eqb_tells}
+use Rattle.std.proofs.lemmas.Bool.Decides.{nat_tests}
 use Rattle.std.specs.Map.{update}
 use Rattle.std.specs.Option.{option_map, option_flatten, option_or}
 use Rattle.device.specs.Meaning.{sum_below}
 use Rattle.device.proofs.Below.{below_same, below_none, below_start, below_next, below_put}
 use Rattle.rows.specs.declared.slots.Slot.{Slot}
 use Rattle.rows.specs.declared.table.Table.{Table}
-use Rattle.rows.specs.Slots.{first_row, is_handle, share}
+use Rattle.rows.specs.Slots.{first_row, is_handle}
 use Rattle.rows.specs.Tables.{slot, slot_at, row_of, can_put, changed}
 use Rattle.rows.specs.Holdings.{found_by}
 use Rattle.rows.proofs.Truths.{met_at, clash}
-use Rattle.rows.proofs.Found.{is_shared, row_some, row_none, row_zero, row_suc, no_row, row_same, row_found, put_found, put_below, put_unused, put_fresh, clear_found, change_found}
+use Rattle.rows.proofs.Found.{is_shared, row_some, row_none, row_zero, row_suc, no_row, row_found, put_found, put_below, put_unused, put_fresh, clear_found, change_found}
 
 -- what a handle finds has it
 pub found_has : {T : Type 0} {n : ℕ} (t : Table T n) (h i : ℕ) → row_of t h ≡ Some i → (is_handle h (slot_at t i) ≡ true) × (i < n)

@@ -5,7 +5,6 @@ use Rattle.conversion.specs.Lists.{any}
 use Rattle.conversion.specs.Kinds.{kinds}
 use Rattle.conversion.specs.Counts.{count_of}
 use Rattle.conversion.specs.declared.kinds.Kind.{Kind}
-use Rattle.conversion.specs.declared.counts.DescriptorCounts.{DescriptorCounts}
 use Rattle.conversion.specs.declared.bindings.DeviceBinding.{DeviceBinding}
 use Rattle.device.specs.Meaning.{LiveLayout, LivePool, sum_below}
 use Rattle.rows.specs.declared.slots.Slot.{Slot}

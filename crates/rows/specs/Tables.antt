@@ -1,5 +1,5 @@
 -- A table by its rows and by its handles. Assumes nothing.
-use Rattle.std.specs.Prelude.{◌≡◌, ℕ, Bool, cond, not, ◌&&◌, is_some, Some, None, Option, nat_eq, nat_lt, slice_index_or}
+use Rattle.std.specs.Prelude.{ℕ, Bool, not, ◌&&◌, is_some, Some, None, Option, nat_eq, nat_lt, slice_index_or}
 use Rattle.std.specs.Map.{update}
 use Rattle.std.specs.Option.{option_map}
 use Rattle.device.specs.Meaning.{sum_below}

@@ -1,4 +1,4 @@
-use Rattle.std.proofs.Common.{◌-◌, set, ◌∙◌, ap₂, arith, length-set}
+use Rattle.std.proofs.Common.{set, ◌∙◌, ap₂, arith, length-set}
 use Rattle.conversion.specs.Layouts.{device_binding, no_binding, no_entry}
 use Rattle.conversion.proofs.Rows.{row_more, row_end}
 use Rattle.conversion.proofs.bindings.device_bindings.Goals as goal

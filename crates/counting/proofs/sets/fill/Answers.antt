@@ -1,4 +1,4 @@
-use Rattle.std.proofs.Common.{◌+◌, ap, subst}
+use Rattle.std.proofs.Common.{◌+◌, subst}
 use Rattle.device.specs.Writes.{lists_of}
 use Rattle.counting.specs.Steps.{PutAt}
 use Rattle.counting.proofs.Filling.{filled_more}

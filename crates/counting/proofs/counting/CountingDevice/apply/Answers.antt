@@ -1,5 +1,4 @@
 use Rattle.std.proofs.Common.{sym, refl, ap, ◌∙◌, subst}
-use Rattle.std.specs.List.{slice_get}
 use Rattle.device.specs.Writes.{lists_of, valid_in, valid_for, valid}
 use Rattle.counting.specs.Counting.{sets_of}
 use Rattle.counting.specs.Steps.{Filled}

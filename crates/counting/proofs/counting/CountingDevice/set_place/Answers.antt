@@ -1,4 +1,4 @@
-use Rattle.std.proofs.Common.{◌≡◌, sym, ◌∙◌, arith}
+use Rattle.std.proofs.Common.{sym, ◌∙◌, arith}
 use Rattle.counting.proofs.Fixed.{set_fixed_lem, set_refused}
 use Rattle.counting.proofs.counting.CountingDevice.set_place.Goals as goal
 

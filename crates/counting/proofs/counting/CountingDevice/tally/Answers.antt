@@ -1,7 +1,5 @@
-use Rattle.std.proofs.Common.{◌≡◌, ap, ◌∙◌, ap₂}
+use Rattle.std.proofs.Common.{◌∙◌, ap₂}
 use Rattle.rows.specs.Tables.{used_rows}
-use Rattle.rows.specs.Holdings.{total_at}
-use Rattle.device.specs.Meaning.{sum_below}
 use Rattle.counting.specs.declared.reading.Tally.{Tally}
 use Rattle.counting.proofs.Fixed.{used_is}
 use Rattle.counting.proofs.counting.CountingDevice.tally.Goals as goal

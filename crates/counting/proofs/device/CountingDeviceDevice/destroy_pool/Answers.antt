@@ -1,4 +1,4 @@
-use Rattle.std.proofs.Common.{cond, eqb, Some, None, sym, ap, ◌∙◌}
+use Rattle.std.proofs.Common.{cond, eqb, None, sym, ap, ◌∙◌}
 use mathlib.Core.Path.{fun_ext}
 use Rattle.std.specs.Map.{update}
 use Rattle.device.specs.Calls.{outside}

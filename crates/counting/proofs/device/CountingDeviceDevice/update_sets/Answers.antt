@@ -1,4 +1,4 @@
-use Rattle.std.proofs.Common.{◌||◌, sym, refl, ap, ◌∙◌, ap₂, arith}
+use Rattle.std.proofs.Common.{◌||◌, sym, ap, ◌∙◌}
 use Rattle.std.proofs.lemmas.List.{at_drop_all}
 use Rattle.device.specs.Writes.{lists_of, after_writes, some_invalid}
 use Rattle.rows.specs.Holdings.{layouts_of, pools_of}

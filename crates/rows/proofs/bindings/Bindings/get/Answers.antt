@@ -1,4 +1,4 @@
-use Rattle.std.proofs.Common.{sym, ap, ◌∙◌, arith}
+use Rattle.std.proofs.Common.{ap, ◌∙◌, arith}
 use Rattle.std.specs.List.{slice_get}
 use Rattle.conversion.specs.Layouts.{no_binding}
 use Rattle.device.proofs.Nths.{nth_there, nth_past}

@@ -1,6 +1,6 @@
 use Rattle.std.proofs.Common.{sym, ap, ◌∙◌, arith}
 use Rattle.std.proofs.lemmas.List.{take_all}
-use Rattle.rows.specs.Bindings.{list_of, total_of, start_of}
+use Rattle.rows.specs.Bindings.{total_of, start_of}
 use Rattle.rows.proofs.bindings.Bindings.start.Goals as goal
 
 pub returns-else-i-list : goal.returns-else-i-list

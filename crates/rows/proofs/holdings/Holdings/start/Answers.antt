@@ -1,4 +1,4 @@
-use Rattle.std.proofs.Common.{refl, ◌∙◌, arith}
+use Rattle.std.proofs.Common.{◌∙◌, arith}
 use Rattle.rows.specs.Bindings.{start_of}
 use Rattle.rows.proofs.Figures.{at_past, no_start}
 use Rattle.rows.proofs.holdings.Holdings.start.Goals as goal

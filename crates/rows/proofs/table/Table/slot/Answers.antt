@@ -1,6 +1,5 @@
 use Rattle.std.proofs.Common.{None, sym, arith}
 use Rattle.std.proofs.lemmas.List.{get_or_past}
-use Rattle.rows.proofs.Found.{get_or_either}
 use Rattle.rows.proofs.table.Table.slot.Goals as goal
 
 pub returns-else-i : goal.returns-else-i
