@@ -1,13 +1,13 @@
 // The bench tool: reads layouts as text, and prints what a device would be asked for.
 #![tactic(auto)]
 
-mod input;
 mod report;
 
-use crate::input::read_layouts;
 use crate::report::print_layout;
 use anyhow::anyhow;
-use std::env;
+use layouts::read_layouts;
+use std::process::ExitCode;
+use std::{env, io};
 
 const USAGE: &str = "usage: bench < SCRIPT
 
@@ -41,10 +41,12 @@ fn run(rt: &HostRuntime) -> anyhow::Result<()> {
     Ok(())
 }
 
-fn main(rt: HostRuntime) -> anyhow::Result<()> {
-    let result = run(&rt);
-    if let Err(error) = &result {
-        eprintln!(rt; "bench: {error}")?;
+fn main(rt: HostRuntime) -> io::Result<ExitCode> {
+    match run(&rt) {
+        Ok(()) => Ok(ExitCode::SUCCESS),
+        Err(error) => {
+            eprintln!(rt; "bench: {error}")?;
+            Ok(ExitCode::FAILURE)
+        }
     }
-    result
 }

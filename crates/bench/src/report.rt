@@ -1,11 +1,11 @@
 // What is printed of a layout.
-use crate::input::Layout;
 use conversion::bindings::{DeviceBinding, device_bindings, layout_flags};
 use conversion::checks::check_layout;
 use conversion::counts::BucketKey;
 use conversion::entries::LayoutEntry;
 use conversion::faults::LayoutFault;
 use conversion::kinds::Kind;
+use layouts::Layout;
 use script::names::KIND_NAMES;
 use std::io;
 

@@ -1,4 +1,6 @@
 // Layouts from standard input.
+#![tactic(auto)]
+
 use anyhow::anyhow;
 use conversion::entries::LayoutEntry;
 use script::lines::{Expected, Line, Unreadable, read_line};
@@ -89,7 +91,7 @@ fn complain(rt: &impl Eprint, number: u64, complaint: Complaint) -> io::Result<(
 }
 
 // All layouts, or an error once each line that can't be read was named.
-pub(crate) fn read_layouts(rt: &HostRuntime) -> anyhow::Result<Vec<Layout>> {
+pub fn read_layouts(rt: &HostRuntime) -> anyhow::Result<Vec<Layout>> {
     let heap = rt.alloc();
     let mut layouts: Vec<Layout> = Vec::new(heap);
     let mut number: u64 = 0;
