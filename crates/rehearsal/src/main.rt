@@ -1,14 +1,14 @@
 // Rehearsal: reads layouts as text, and asks the counting device for those that are accepted.
 #![tactic(auto)]
 
-mod input;
 mod on_device;
 mod sample;
 
-use crate::input::read_layouts;
 use crate::on_device::run_layouts;
 use anyhow::anyhow;
-use std::env;
+use layouts::read_layouts;
+use std::process::ExitCode;
+use std::{env, io};
 
 const USAGE: &str = "usage: rehearsal < SCRIPT
 
@@ -40,10 +40,12 @@ fn run(rt: &HostRuntime) -> anyhow::Result<()> {
     run_layouts(rt, &layouts)
 }
 
-fn main(rt: HostRuntime) -> anyhow::Result<()> {
-    let result = run(&rt);
-    if let Err(error) = &result {
-        eprintln!(rt; "rehearsal: {error}")?;
+fn main(rt: HostRuntime) -> io::Result<ExitCode> {
+    match run(&rt) {
+        Ok(()) => Ok(ExitCode::SUCCESS),
+        Err(error) => {
+            eprintln!(rt; "rehearsal: {error}")?;
+            Ok(ExitCode::FAILURE)
+        }
     }
-    result
 }

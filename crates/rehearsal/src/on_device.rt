@@ -1,5 +1,4 @@
 // The accepted layouts on the counting device: each is made, used for one set, and destroyed again.
-use crate::input::Layout;
 use crate::sample::Sample;
 use conversion::bindings::{DeviceBinding, device_bindings, layout_flags, pool_flags};
 use conversion::checks::check_layout;
@@ -10,6 +9,7 @@ use counting::counting::CountingDevice;
 use device::faults::DeviceFault;
 use device::meaning::Device;
 use device::records::{Content, Descriptor, PoolSize};
+use layouts::Layout;
 use script::names::KIND_NAMES;
 use std::alloc::{AllocError, Global};
 use std::io;
