@@ -3,7 +3,7 @@
 
 pub mod calls;
 pub mod counting;
-pub mod device;
 pub mod laws;
+pub mod meaning;
 pub mod reading;
 pub mod sets;

@@ -8,7 +8,7 @@ use Rattle.rows.specs.Holdings.{pools_of}
 use Rattle.counting.specs.Counting.{last_after}
 use Rattle.rows.proofs.Truths.{or_false}
 use Rattle.counting.proofs.Pools.{made_row, placed_next, placed_answer, placed_given, placed_held}
-use Rattle.counting.proofs.device.CountingDeviceDevice.create_pool.Goals as goal
+use Rattle.counting.proofs.meaning.CountingDeviceDevice.create_pool.Goals as goal
 
 pub invariant_of-self : goal.invariant_of-self
 invariant_of-self c =

@@ -1,7 +1,7 @@
 use Rattle.std.proofs.Common.{sym, refl, ◌∙◌}
 use Rattle.counting.specs.Kept.{given_clear}
 use Rattle.counting.proofs.Made.{layouts_clear}
-use Rattle.counting.proofs.device.CountingDeviceDevice.destroy_layout.Goals as goal
+use Rattle.counting.proofs.meaning.CountingDeviceDevice.destroy_layout.Goals as goal
 
 pub invariant_of-self : goal.invariant_of-self
 invariant_of-self c =

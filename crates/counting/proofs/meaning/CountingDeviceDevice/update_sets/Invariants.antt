@@ -1,7 +1,7 @@
 use Rattle.std.proofs.Common.{◌≡◌, ◌||◌, drop}
 use Rattle.device.specs.Writes.{lists_of, after_writes, some_invalid}
 use Rattle.counting.specs.Counting.{sets_of}
-use Rattle.counting.proofs.device.CountingDeviceDevice.update_sets.Given as goal
+use Rattle.counting.proofs.meaning.CountingDeviceDevice.update_sets.Given as goal
 
 abbrev pub invariant-loop-write : goal.invariant-loop-write
 invariant-loop-write l =

@@ -7,7 +7,7 @@ use Rattle.counting.specs.Counting.{sets_of}
 use Rattle.counting.specs.Kept.{given_clear}
 use Rattle.counting.proofs.Made.{pools_clear}
 use Rattle.counting.proofs.Places.{outside_sets, same_layouts, same_pools, pool_lives}
-use Rattle.counting.proofs.device.CountingDeviceDevice.destroy_pool.Goals as goal
+use Rattle.counting.proofs.meaning.CountingDeviceDevice.destroy_pool.Goals as goal
 
 pub invariant_of-self : goal.invariant_of-self
 invariant_of-self c =

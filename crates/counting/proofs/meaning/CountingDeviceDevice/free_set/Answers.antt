@@ -2,7 +2,7 @@ use Rattle.std.proofs.Common.{sym, ap, ◌∙◌}
 use Rattle.device.specs.Calls.{lives_in}
 use Rattle.counting.specs.Kept.{same_number}
 use Rattle.counting.proofs.Places.{freed_sets, same_layouts, same_pools, set_lives}
-use Rattle.counting.proofs.device.CountingDeviceDevice.free_set.Goals as goal
+use Rattle.counting.proofs.meaning.CountingDeviceDevice.free_set.Goals as goal
 
 pub returns-in-Some : goal.returns-in-Some
 returns-in-Some c =

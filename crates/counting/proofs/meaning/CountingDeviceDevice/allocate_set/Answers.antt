@@ -7,7 +7,7 @@ use Rattle.counting.specs.Counting.{last_after, fixed_set, sets_of}
 use Rattle.counting.specs.Kept.{given_later, given_change}
 use Rattle.counting.proofs.Placed.{placed_next, placed_given, placed_sized, placed_sets}
 use Rattle.counting.proofs.Taken.{refused_set, bindings_there, remembers, or_last, or_none, valid_set, answer_full, answer_fixed, unmarked}
-use Rattle.counting.proofs.device.CountingDeviceDevice.allocate_set.Goals as goal
+use Rattle.counting.proofs.meaning.CountingDeviceDevice.allocate_set.Goals as goal
 
 pub returns-then-is_full : goal.returns-then-is_full
 returns-then-is_full c =

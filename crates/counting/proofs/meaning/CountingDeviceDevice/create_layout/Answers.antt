@@ -7,7 +7,7 @@ use Rattle.counting.specs.Counting.{live_in, last_after}
 use Rattle.counting.specs.Kept.{free_below}
 use Rattle.rows.proofs.Truths.{or_false}
 use Rattle.counting.proofs.Layouts.{placed_next, placed_answer, placed_given, placed_held, placed_sets}
-use Rattle.counting.proofs.device.CountingDeviceDevice.create_layout.Goals as goal
+use Rattle.counting.proofs.meaning.CountingDeviceDevice.create_layout.Goals as goal
 
 pub invariant_of-self : goal.invariant_of-self
 invariant_of-self c =

@@ -4,7 +4,7 @@ use Rattle.device.specs.Writes.{lists_of, after_writes, some_invalid}
 use Rattle.rows.specs.Holdings.{layouts_of, pools_of}
 use Rattle.counting.specs.Counting.{sets_of}
 use Rattle.counting.proofs.Applying.{sets_more, marks_more, no_writes, no_marks}
-use Rattle.counting.proofs.device.CountingDeviceDevice.update_sets.Goals as goal
+use Rattle.counting.proofs.meaning.CountingDeviceDevice.update_sets.Goals as goal
 
 pub loop-write-preserved : goal.loop-write-preserved
 loop-write-preserved c =
