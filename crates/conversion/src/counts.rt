@@ -1,8 +1,6 @@
 // Descriptors counted by kind, and the key of a bucket.
-ghost use Rattle.std.specs.Prelude.{◌≡◌, ◌+◌, ◌^◌, ◌<◌, Decides, nat_eq};
-ghost use Rattle.std.specs.Ordering.{on, eq_of_both};
-ghost use Rattle.std.proofs.Math.Bool.{beq};
-ghost use Rattle.conversion.specs.Counts.{count_of, total};
+ghost use Rattle.std.specs.Prelude.{◌≡◌, ◌+◌, ◌^◌, ◌<◌, Decides};
+ghost use Rattle.conversion.specs.Counts.{count_of, total, counts_eq, key_eq};
 ghost use Rattle.conversion.specs.Layouts.{entry_count, counting};
 ghost use Rattle.std.specs.Cmp.Rules.{comparing};
 ghost use Rattle.std.proofs.Common.{rules};
@@ -24,7 +22,7 @@ pub struct DescriptorCounts {
 }
 
 impl PartialEq for DescriptorCounts {
-    ghost eq = { eq_of_both (on (λ v. v.sampler) nat_eq) (eq_of_both (on (λ v. v.sampled_image) nat_eq) (eq_of_both (on (λ v. v.storage_image) nat_eq) (eq_of_both (on (λ v. v.uniform_buffer) nat_eq) (eq_of_both (on (λ v. v.uniform_buffer_dynamic) nat_eq) (eq_of_both (on (λ v. v.storage_buffer) nat_eq) (eq_of_both (on (λ v. v.storage_buffer_dynamic) nat_eq) (on (λ v. v.acceleration_structure) nat_eq))))))) };
+    ghost eq = { counts_eq };
 
     ghost laws = { Prim.search (comparing, rules) depth 40 };
 
@@ -50,7 +48,7 @@ pub struct BucketKey {
 }
 
 impl PartialEq for BucketKey {
-    ghost eq = { eq_of_both (on (λ v. v.counts) (eq_of_both (on (λ v. v.sampler) nat_eq) (eq_of_both (on (λ v. v.sampled_image) nat_eq) (eq_of_both (on (λ v. v.storage_image) nat_eq) (eq_of_both (on (λ v. v.uniform_buffer) nat_eq) (eq_of_both (on (λ v. v.uniform_buffer_dynamic) nat_eq) (eq_of_both (on (λ v. v.storage_buffer) nat_eq) (eq_of_both (on (λ v. v.storage_buffer_dynamic) nat_eq) (on (λ v. v.acceleration_structure) nat_eq))))))))) (on (λ v. v.arrays) beq) };
+    ghost eq = { key_eq };
 
     ghost laws = { Prim.search (comparing, rules) depth 40 };
 

@@ -1,4 +1,4 @@
--- What the counting device fixes is allowed.
+-- Proof: what the counting device fixes is allowed. It stands here since a ghost member may cite no other folder.
 use Rattle.std.specs.Prelude.{◌≡◌, ℕ, ◌+◌, Bool, true, false, cond, ◌&&◌, ◌∷◌, length, ℤ, is_some, Ok, Err, Option, Result, MatchResult, nat_le, nat_lt, refl}
 use Rattle.std.proofs.Common.{arith, sym, ap, subst, inl, inr}
 use Rattle.std.specs.Option.{option_map, option_flatten}

@@ -1,4 +1,4 @@
--- What stays true of the rows as they change.
+-- Proofs: what stays true of the rows as they change. They stand here for Fairly.
 use Rattle.std.specs.Prelude.{◌≡◌, ℕ, ◌+◌, ◌<◌, ◌≤◌, Bool, true, false, cond, not, ltb, ◌⊎◌, List, ℤ, is_some, Some, None, Ok, Err, Option, Result, ◌==◌, ◌≢◌, nat_eq, nat_lt, slice_index_or, slice_set, refl}
 use Rattle.std.proofs.Common.{arith, sym, ap, ◌∙◌, inl, inr, get_or-set_other}
 use Rattle.std.proofs.Math.Decide.{dec_lt}

@@ -1,7 +1,6 @@
 -- A new device, and what is read back from one. Assumes nothing.
 use Rattle.std.specs.Prelude.{◌≡◌, ℕ, Some, None, Option}
-use Rattle.device.specs.Meaning.{Descriptor}
-use Rattle.device.specs.Meaning.{State, LiveSet, sum_below}
+use Rattle.device.specs.Meaning.{State, Descriptor, LiveSet, sum_below}
 use Rattle.device.specs.Calls.{Empty}
 use Rattle.segments.specs.Segments.{size}
 use Rattle.counting.specs.declared.counting.CountingDevice.{CountingDevice}

@@ -1,4 +1,5 @@
 -- Descriptors as a device stores them, and what the meaning has in their place. Assumes nothing.
+use Rattle.std.specs.Prelude.{◌≡◌}
 use Rattle.device.specs.declared.records.Content as stored
 use Rattle.device.specs.declared.records.Content.TheVariants as variant
 use Rattle.device.specs.declared.records.Descriptor as stored_whole
@@ -13,3 +14,7 @@ said (variant.Acceleration r) = acceleration r
 -- what a stored descriptor says
 abbrev pub described : stored_whole.Descriptor → Descriptor
 described d = record { descriptor_type = d.descriptor_type; content = said d.content }
+
+-- no two stored descriptors say the same
+abbrev pub StoredApart : Type 0
+StoredApart = (a b : stored_whole.Descriptor) → described a ≡ described b → a ≡ b

@@ -1,5 +1,6 @@
 // What the definitions say together, which layers above lean on.
 ghost use Rattle.device.specs.Laws.{CountsAgree, EmptyCounts, MadeCounts, FreedCounts, GoneCounts, WritesInOrder};
+ghost use Rattle.device.specs.Stored.{StoredApart};
 
 // What a device counts of a converted layout is what its entries count.
 pub fn counts_agree()
@@ -17,4 +18,9 @@ pub fn sets_are_counted()
 // Several writes in one call are as good as one call for each.
 pub fn writes_are_in_order()
     ensures { WritesInOrder }
+{}
+
+// No two stored descriptors have one meaning, so that what is said of their meaning is said of them.
+pub fn stored_are_apart()
+    ensures { StoredApart }
 {}

@@ -68,7 +68,7 @@ fn check_answer(
         Ok(handle) => {
             assert_eq!(rt; Ok(handle), due);
             Ok(())
-        },
+        }
         Err(fault) => {
             assert_eq!(rt; fault.call.number(), call);
             assert_eq!(rt; Err(fault.result), due);
