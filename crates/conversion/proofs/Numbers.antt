@@ -7,7 +7,7 @@ use Rattle.std.proofs.lemmas.Bool.Decides.{nat_tests}
 use Rattle.conversion.specs.declared.kinds.Kind.{Kind}
 use Rattle.conversion.specs.declared.kinds.Kind.TheVariants.{Sampler, SampledImage, StorageImage, UniformBuffer, UniformBufferDynamic, StorageBuffer, StorageBufferDynamic, AccelerationStructure}
 use Rattle.conversion.specs.Cases.{KindsByNumber}
-use Rattle.conversion.specs.Kinds.{place, kind_at, kind_of_type, typed_among, type_number}
+use Rattle.conversion.specs.Kinds.{place, kind_at, kind_of_type, type_number}
 use Rattle.conversion.specs.Stages.{stages_below, stage_table}
 
 -- what holds of each of the eight holds of every kind
@@ -24,9 +24,6 @@ by_kind P a b c d e f g h AccelerationStructure = h
 pub kinds_by_number : KindsByNumber
 kinds_by_number =
     by_kind (λ k. (kind_at (place k) ≡ Some k) × (kind_of_type (type_number k) ≡ Some k)) (refl, refl) (refl, refl) (refl, refl) (refl, refl) (refl, refl) (refl, refl) (refl, refl) (refl, refl)
-
-pub typed_next : (ks : List Kind) (i t : ℕ) (d : Kind) → i < length ks → (type_number (get_or ks i d) ≡ t → ⊥) → typed_among (drop i ks) t ≡ typed_among (drop (i + 1) ks) t
-typed_next ks i t d h e = rw (drop_more ks i d h) (grind (arith, nat_tests))
 
 pub stage_set : (s k f : ℕ) → k < 32 → f ≡ stages_below k s → (bit_and s ((1 * 2 ^ k) % 2 ^ 32) ≡ 0 → ⊥) → bit_or f (get_or stage_table k 0) ≡ stages_below (k + 1) s
 stage_set s k f h e t = let p = one_shl k 32 h in let q = rw p at t in rw (add-one k, e) (grind (arith, nat_tests))

@@ -1,7 +1,11 @@
 -- What a search for the first number finds, and how it goes on.
-use Rattle.std.proofs.Common.{◌≡◌, ℕ, zero, suc, ◌+◌, ◌<◌, ◌≤◌, Bool, true, false, cond, List, length, get_or, drop, Some, None, Option, refl, ap, ◌∙◌, subst, inl, inr, le_of_suc-le-suc, eq-or-lt_of_le, add-one, arith}
+use Rattle.std.proofs.Common.{◌≡◌, ℕ, zero, suc, ◌+◌, ◌<◌, ◌≤◌, Bool, true, false, cond, List, length, get_or, drop, Some, None, Option, not, refl, sym, ap, ◌∙◌, subst, inl, inr, le_of_suc-le-suc, eq-or-lt_of_le, add-one, arith}
 use Rattle.std.proofs.lemmas.List.{drop_more}
 use Rattle.std.specs.Option.{option_or}
+use Rattle.std.specs.List.{position, position_or_len}
+use Rattle.std.proofs.lemmas.List.Sums.{prefix_len_passes}
+use Rattle.std.proofs.lemmas.Bool.Decides.{leb_tells}
+use Rattle.std.proofs.lemmas.List.Quantifiers.{position-Some}
 use Rattle.conversion.specs.Lists.{first, any}
 
 -- none so far, and not here
@@ -44,3 +48,23 @@ any_here f xs i d h e = rw (drop_more xs i d h, e)
 pub first_fewer : (f : ℕ → Bool) (n m : ℕ) → n ≤ m → first f m ≡ None → first f n ≡ None
 first_fewer f n m h e =
     all_false f n (λ i l. first_none f m e i (omega arith))
+
+not_true : (b : Bool) → not b ≡ true → b ≡ false
+not_true true e = cc
+not_true false e = refl
+
+-- the search by numbers finds what the library's search over a list does
+pub first_position : {X : Type 0} (p : X → Bool) (d : X) (xs : List X) → first (λ i. p (get_or xs i d)) (length xs) ≡ position p xs
+first_position p d xs =
+    let f : ℕ → Bool = λ i. p (get_or xs i d) in
+    let below : (k : ℕ) → k < position_or_len p xs → f k ≡ false = λ k h. not_true (f k) (prefix_len_passes (λ x. not (p x)) xs k d h) in
+    elim (leb_tells (suc (position_or_len p xs)) (length xs)) [
+      | inl h ↦
+        let e : position p xs ≡ Some (position_or_len p xs) = rw h.0 in
+        let s = position-Some p xs (position_or_len p xs) d e in
+        first_at f (position_or_len p xs) (length xs) s.0 (all_false f (position_or_len p xs) below) s.1 ∙ sym e
+      | inr h ↦
+        let e : position p xs ≡ None = rw h.0 in
+        let l = h.1 in
+        all_false f (length xs) (λ k q. below k (omega arith)) ∙ sym e
+    ]

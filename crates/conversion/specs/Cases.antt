@@ -1,9 +1,6 @@
 -- What the definitions say together, and single results of them. Assumes nothing.
-use Rattle.std.specs.Prelude.{◌≡◌, ℕ, [], ◌∷◌, Some, None, Decides}
+use Rattle.std.specs.Prelude.{◌≡◌, ℕ, [], ◌∷◌, Some, None}
 use Rattle.conversion.specs.Kinds.{place, kind_at, type_number, kind_of_type}
-use Rattle.conversion.specs.Counts.{counts_eq, key_eq}
-use Rattle.conversion.specs.declared.counts.DescriptorCounts.{DescriptorCounts}
-use Rattle.conversion.specs.declared.counts.BucketKey.{BucketKey}
 use Rattle.conversion.specs.Layouts.{layout_refusal}
 use Rattle.conversion.specs.declared.kinds.Kind.{Kind}
 use Rattle.conversion.specs.declared.kinds.Kind.TheVariants.{Sampler}
@@ -14,11 +11,6 @@ use Rattle.conversion.specs.declared.faults.LayoutFault.TheVariants.{TooManyDesc
 -- each kind is found again by its place and by its type number
 abbrev pub KindsByNumber : Type 0
 KindsByNumber = (k : Kind) → (kind_at (place k) ≡ Some k) × (kind_of_type (type_number k) ≡ Some k)
-
--- what `==` and `!=` answer, through a bound too, tells whether counts are the same, and keys
-pub record SamenessTold : Type 0 where
-  pub counts : (a b : DescriptorCounts) → Decides (counts_eq a b) (a ≡ b)
-  pub keys : (a b : BucketKey) → Decides (key_eq a b) (a ≡ b)
 
 -- samplers at binding b, n of them in an array
 abbrev pub samplers : ℕ → ℕ → LayoutEntry

@@ -1,8 +1,9 @@
 -- Kinds of descriptor, and Vulkan's type numbers for them. Assumes nothing.
-use Rattle.std.specs.Prelude.{ℕ, cond, List, [], ◌∷◌, Some, None, Option, ◌==◌, slice_index}
-use Rattle.std.specs.List.{slice_get}
+use Rattle.std.specs.Prelude.{◌≡◌, ℕ, List, [], ◌∷◌, Some, None, Option, Result, MatchResult, ◌==◌, slice_index}
+use Rattle.std.specs.List.{slice_get, find}
 use Rattle.conversion.specs.declared.kinds.Kind.{Kind}
 use Rattle.conversion.specs.declared.kinds.Kind.TheVariants.{Sampler, SampledImage, StorageImage, UniformBuffer, UniformBufferDynamic, StorageBuffer, StorageBufferDynamic, AccelerationStructure}
+use Rattle.conversion.specs.declared.kinds.UnknownType.{UnknownType}
 use Rattle.conversion.specs.declared.kinds.EntryKind.{EntryKind}
 use Rattle.conversion.specs.declared.kinds.EntryKind.TheVariants.{Descriptor, ExternalTexture}
 
@@ -33,14 +34,13 @@ type_numbers = 0 ∷ 2 ∷ 3 ∷ 6 ∷ 8 ∷ 7 ∷ 9 ∷ 1000150000 ∷ []
 abbrev pub type_number : Kind → ℕ
 type_number k = slice_index type_numbers (place k)
 
--- the first of some kinds that has a type number
-abbrev pub typed_among : List Kind → ℕ → Option Kind
-typed_among [] t = None
-typed_among (k ∷ ks) t = cond (type_number k == t) (Some k) (typed_among ks t)
-
 -- the kind that has a type number
 abbrev pub kind_of_type : ℕ → Option Kind
-kind_of_type t = typed_among kinds t
+kind_of_type t = find (λ k. type_number k == t) kinds
+
+-- a type number read: the kind that has it, or the number where none has
+abbrev pub Typed : ℕ → Result Kind UnknownType → Type 0
+Typed t r = MatchResult r (λ k. kind_of_type t ≡ Some k) (λ u. (kind_of_type t ≡ None) × (u.0 ≡ t))
 
 -- the type number of what an entry asks for; an external texture has none
 abbrev pub type_of : EntryKind → Option ℕ

@@ -25,7 +25,7 @@ const POOL_UPDATE_AFTER_BIND: u32 = 2;
 const UNCOUNTED_TYPE: u32 = 1;
 
 // A binding as the device has it, all in Vulkan's numbers.
-#[derive(Clone, Copy)]
+#[derive(Clone, Copy, Debug, Default, PartialEq, Eq)]
 pub struct DeviceBinding {
     pub descriptor_type: u32,
     pub count: u32,
@@ -79,13 +79,6 @@ pub fn pool_flags(key: &BucketKey) -> u32
     }
 }
 
-const NO_BINDING: DeviceBinding = DeviceBinding {
-    descriptor_type: 0,
-    count: 0,
-    stages: 0,
-    flags: 0,
-};
-
 // Binding i of the device layout is entry i. Rows past the last entry hold zeros, and entries past the last row are left out.
 pub fn device_bindings(
     entries: &[LayoutEntry],
@@ -93,9 +86,10 @@ pub fn device_bindings(
 ) -> [DeviceBinding; MAX_ENTRIES]
     ensures { result ≡ binding_rows partially_bound entries.now }
 {
-    let mut rows = [NO_BINDING; MAX_ENTRIES];
-    for i in 0..entries.len().min(MAX_ENTRIES) {
-        rows[i] = entries[i].device_binding(partially_bound);
+    let mut rows = [DeviceBinding::default(); MAX_ENTRIES];
+    let listed = &entries[..entries.len().min(MAX_ENTRIES)];
+    for (i, entry) in listed.iter().enumerate() {
+        rows[i] = entry.device_binding(partially_bound);
     }
     rows
 }

@@ -1,11 +1,11 @@
 // The refusals of a layout's entries, in the order of their numbers.
 ghost use Rattle.std.specs.Prelude.{◌≡◌, Some, None, MatchResult};
-ghost use Rattle.conversion.specs.Layouts.{counts_of, has_array, too_many, misordered, with_external, overflowing, layout_answer, Judged};
+ghost use Rattle.std.specs.List.{position};
+ghost use Rattle.conversion.specs.Layouts.{is_external, counts_of, has_array, too_many, misordered, with_external, overflowing, layout_answer, Judged};
 
-use crate::counts::{BucketKey, DescriptorCounts, NO_COUNTS};
+use crate::counts::{BucketKey, DescriptorCounts};
 use crate::entries::LayoutEntry;
 use crate::faults::LayoutFault;
-use crate::kinds::EntryKind;
 
 // The most entries that a layout can have.
 pub const MAX_ENTRIES: usize = 32;
@@ -23,30 +23,36 @@ fn check_length(entries: &[LayoutEntry]) -> Result<(), LayoutFault>
 fn check_order(entries: &[LayoutEntry]) -> Result<(), LayoutFault>
     ensures { MatchResult result (λ _. misordered entries.now ≡ None) (λ f. misordered entries.now ≡ Some f) }
 {
-    for i in 1..entries.len() {
-        if entries[i].binding <= entries[i - 1].binding {
+    let mut before: Option<u32> = None;
+    for (i, e) in entries.iter().enumerate() {
+        if before.is_some_and(|binding| e.binding <= binding) {
             return Err(LayoutFault::BindingOrder { entry: i });
         }
+        before = Some(e.binding);
     }
     Ok(())
+}
+
+fn first_external(entries: &[LayoutEntry]) -> Option<usize>
+    ensures { result ≡ position (λ e. is_external e.kind) entries.now }
+{
+    entries.iter().position(|e| e.kind.is_external())
 }
 
 fn check_kinds(entries: &[LayoutEntry]) -> Result<(), LayoutFault>
     ensures { MatchResult result (λ _. with_external entries.now ≡ None) (λ f. with_external entries.now ≡ Some f) }
 {
-    for (i, e) in entries.iter().enumerate() {
-        if let EntryKind::ExternalTexture = e.kind {
-            return Err(LayoutFault::ExternalTexture { entry: i });
-        }
+    match first_external(entries) {
+        Some(entry) => Err(LayoutFault::ExternalTexture { entry }),
+        None => Ok(()),
     }
-    Ok(())
 }
 
 // The eight counts, each entry counted once, with the running total checked.
 fn count_descriptors(entries: &[LayoutEntry]) -> Result<DescriptorCounts, LayoutFault>
     ensures { MatchResult result (λ counts. (counts ≡ counts_of entries.now) × (overflowing entries.now ≡ None)) (λ f. overflowing entries.now ≡ Some f) }
 {
-    let mut counts = NO_COUNTS;
+    let mut counts = DescriptorCounts::default();
     let mut total: u32 = 0;
     for (i, e) in entries.iter().enumerate() {
         let Some(sum) = total.checked_add(e.count()) else {
@@ -61,12 +67,7 @@ fn count_descriptors(entries: &[LayoutEntry]) -> Result<DescriptorCounts, Layout
 fn has_array(entries: &[LayoutEntry]) -> bool
     ensures { result ≡ has_array entries.now }
 {
-    for e in entries {
-        if e.is_array() {
-            return true;
-        }
-    }
-    false
+    entries.iter().any(|e| e.is_array())
 }
 
 // Whether the entries make a layout, and the key of its bucket; or the first refusal that applies.

@@ -1,15 +1,13 @@
 // Descriptors counted by kind, and the key of a bucket.
-ghost use Rattle.std.specs.Prelude.{◌≡◌, ◌+◌, ◌^◌, ◌<◌, Decides};
-ghost use Rattle.conversion.specs.Counts.{count_of, total, counts_eq, key_eq};
+ghost use Rattle.std.specs.Prelude.{◌≡◌, ◌+◌, ◌^◌, ◌<◌};
+ghost use Rattle.conversion.specs.Counts.{count_of, total};
 ghost use Rattle.conversion.specs.Layouts.{entry_count, counting};
-ghost use Rattle.std.specs.Cmp.Rules.{comparing};
-ghost use Rattle.std.proofs.Common.{rules};
 
 use crate::entries::LayoutEntry;
 use crate::kinds::{EntryKind, Kind};
 
 // How many descriptors of each kind. The dynamic buffers have types of their own.
-#[derive(Clone, Copy)]
+#[derive(Clone, Copy, Debug, Default, PartialEq, Eq)]
 pub struct DescriptorCounts {
     pub sampler: u32,
     pub sampled_image: u32,
@@ -21,56 +19,31 @@ pub struct DescriptorCounts {
     pub acceleration_structure: u32,
 }
 
-impl PartialEq for DescriptorCounts {
-    ghost eq = { counts_eq };
-
-    ghost laws = { Prim.search (comparing, rules) depth 40 };
-
-    fn eq(&self, other: &DescriptorCounts) -> bool
-        ensures { Decides result (self.now ≡ other.now) }
-    {
-        self.sampler == other.sampler
-            && self.sampled_image == other.sampled_image
-            && self.storage_image == other.storage_image
-            && self.uniform_buffer == other.uniform_buffer
-            && self.uniform_buffer_dynamic == other.uniform_buffer_dynamic
-            && self.storage_buffer == other.storage_buffer
-            && self.storage_buffer_dynamic == other.storage_buffer_dynamic
-            && self.acceleration_structure == other.acceleration_structure
-    }
-}
-
 // Layouts with one key share a bucket: the eight counts, and whether there is an array.
-#[derive(Clone, Copy)]
+#[derive(Clone, Copy, Debug, PartialEq, Eq)]
 pub struct BucketKey {
     pub counts: DescriptorCounts,
     pub arrays: bool,
 }
 
-impl PartialEq for BucketKey {
-    ghost eq = { key_eq };
-
-    ghost laws = { Prim.search (comparing, rules) depth 40 };
-
-    fn eq(&self, other: &BucketKey) -> bool
-        ensures { Decides result (self.now ≡ other.now) }
-    {
-        self.counts == other.counts && self.arrays == other.arrays
-    }
-}
-
-pub(crate) const NO_COUNTS: DescriptorCounts = DescriptorCounts {
-    sampler: 0,
-    sampled_image: 0,
-    storage_image: 0,
-    uniform_buffer: 0,
-    uniform_buffer_dynamic: 0,
-    storage_buffer: 0,
-    storage_buffer_dynamic: 0,
-    acceleration_structure: 0,
-};
-
 impl DescriptorCounts {
+    // Eight counts, each from its kind.
+    pub fn by<F: Fn(Kind) -> u32>(count: F) -> DescriptorCounts
+        requires { F.IsAlwaysCallable count }
+        ensures { (kind : Kind) → F.post count kind (count_of result kind) }
+    {
+        DescriptorCounts {
+            sampler: count(Kind::Sampler),
+            sampled_image: count(Kind::SampledImage),
+            storage_image: count(Kind::StorageImage),
+            uniform_buffer: count(Kind::UniformBuffer),
+            uniform_buffer_dynamic: count(Kind::UniformBufferDynamic),
+            storage_buffer: count(Kind::StorageBuffer),
+            storage_buffer_dynamic: count(Kind::StorageBufferDynamic),
+            acceleration_structure: count(Kind::AccelerationStructure),
+        }
+    }
+
     // The count of one kind.
     pub fn of_kind(&self, kind: Kind) -> u32
         ensures { result ≡ count_of self.now kind }

@@ -5,7 +5,7 @@ ghost use Rattle.conversion.specs.Layouts.{is_array, entry_count};
 use crate::kinds::EntryKind;
 
 // One entry of a layout. An array size of 0 says that it is no array; one of 1 is an array of one.
-#[derive(Clone, Copy)]
+#[derive(Clone, Copy, Debug, PartialEq, Eq)]
 pub struct LayoutEntry {
     pub binding: u32,
     pub kind: EntryKind,

@@ -2,8 +2,11 @@
 ghost use Rattle.std.specs.Prelude.{◌≡◌};
 ghost use Rattle.conversion.specs.Faults.{layer_number, report_of};
 
+use std::error::Error;
+use std::fmt;
+
 // The layer that refuses.
-#[derive(Clone, Copy)]
+#[derive(Clone, Copy, Debug, PartialEq, Eq)]
 pub enum Layer {
     // layouts and groups
     Group,
@@ -11,11 +14,11 @@ pub enum Layer {
     Device,
 }
 
-impl Layer {
-    pub fn number(self) -> u32
-        ensures { result ≡ layer_number self }
-    {
-        match self {
+impl From<Layer> for u32 {
+    ghost from_gives = { λ layer number. number ≡ layer_number layer };
+
+    fn from(layer: Layer) -> u32 {
+        match layer {
             Layer::Group => 1,
             Layer::Allocator => 2,
             Layer::Device => 3,
@@ -24,7 +27,7 @@ impl Layer {
 }
 
 // The first refusal that applies to a layout's entries, and the first entry that it applies to, from 0.
-#[derive(Clone, Copy)]
+#[derive(Clone, Copy, Debug, PartialEq, Eq)]
 pub enum LayoutFault {
     TooManyEntries,
     BindingOrder { entry: usize },
@@ -33,18 +36,18 @@ pub enum LayoutFault {
 }
 
 // A fault in numbers: the refusal's number, the layer that refuses, and the entry that it names.
-#[derive(Clone, Copy)]
+#[derive(Clone, Copy, Debug, PartialEq, Eq)]
 pub struct FaultReport {
     pub number: u32,
     pub layer: Layer,
     pub entry: usize,
 }
 
-impl LayoutFault {
-    pub fn report(self) -> FaultReport
-        ensures { result ≡ report_of self }
-    {
-        let (number, entry) = match self {
+impl From<LayoutFault> for FaultReport {
+    ghost from_gives = { λ fault report. report ≡ report_of fault };
+
+    fn from(fault: LayoutFault) -> FaultReport {
+        let (number, entry) = match fault {
             LayoutFault::TooManyEntries => (1, 32),
             LayoutFault::BindingOrder { entry } => (2, entry),
             LayoutFault::ExternalTexture { entry } => (3, entry),
@@ -57,3 +60,18 @@ impl LayoutFault {
         }
     }
 }
+
+impl fmt::Display for LayoutFault {
+    fn fmt<W: fmt::Write>(&self, f: &mut fmt::Formatter<W>) -> fmt::Result {
+        f.write_str(match self {
+            LayoutFault::TooManyEntries => "the layout has more than 32 entries",
+            LayoutFault::BindingOrder { .. } => "its binding is not greater than the one before",
+            LayoutFault::ExternalTexture { .. } => "it is an external texture",
+            LayoutFault::TooManyDescriptors { .. } => {
+                "the sum of descriptor counts passes 4294967295"
+            }
+        })
+    }
+}
+
+impl Error for LayoutFault {}

@@ -1,9 +1,13 @@
 // The kinds of descriptor, and Vulkan's numbers for them.
 ghost use Rattle.std.specs.Prelude.{◌≡◌, ◌<◌};
-ghost use Rattle.conversion.specs.Kinds.{place, kind_at, type_number, kind_of_type, type_of};
+ghost use Rattle.conversion.specs.Kinds.{place, kind_at, type_number, kind_of_type, Typed, type_of};
+ghost use Rattle.conversion.specs.Layouts.{is_external};
+
+use std::error::Error;
+use std::fmt;
 
 // The kinds that a descriptor can have, in key order.
-#[derive(Clone, Copy, PartialEq, Eq)]
+#[derive(Clone, Copy, Debug, PartialEq, Eq)]
 pub enum Kind {
     Sampler,
     SampledImage,
@@ -16,10 +20,18 @@ pub enum Kind {
 }
 
 // What a layout entry asks for. No descriptor stands for an external texture.
-#[derive(Clone, Copy)]
+#[derive(Clone, Copy, Debug, PartialEq, Eq)]
 pub enum EntryKind {
     Descriptor(Kind),
     ExternalTexture,
+}
+
+impl EntryKind {
+    pub(crate) fn is_external(self) -> bool
+        ensures { result ≡ is_external self }
+    {
+        self == EntryKind::ExternalTexture
+    }
 }
 
 pub const KINDS: [Kind; 8] = [
@@ -49,29 +61,48 @@ impl Kind {
     pub fn at_place(place: usize) -> Option<Kind>
         ensures { result ≡ kind_at «place» }
     {
-        if place < KINDS.len() {
-            Some(KINDS[place])
-        } else {
-            None
-        }
+        KINDS.get(place).copied()
     }
 
-    pub fn type_number(self) -> u32
-        ensures { result ≡ type_number self }
-    {
-        TYPE_NUMBERS[self.place()]
-    }
-
-    // The kind with a type number.
-    pub fn of_type(number: u32) -> Option<Kind>
+    fn of_type(number: u32) -> Option<Kind>
         ensures { result ≡ kind_of_type number }
     {
-        for kind in KINDS {
-            if kind.type_number() == number {
-                return Some(kind);
-            }
-        }
-        None
+        KINDS
+            .iter()
+            .copied()
+            .find(|kind| u32::from(*kind) == number)
+    }
+}
+
+// The type number.
+impl From<Kind> for u32 {
+    ghost from_gives = { λ kind number. number ≡ type_number kind };
+
+    fn from(kind: Kind) -> u32 {
+        TYPE_NUMBERS[kind.place()]
+    }
+}
+
+// A type number that none of the eight kinds has.
+#[derive(Clone, Copy, Debug, PartialEq, Eq)]
+pub struct UnknownType(pub u32);
+
+impl fmt::Display for UnknownType {
+    fn fmt<W: fmt::Write>(&self, f: &mut fmt::Formatter<W>) -> fmt::Result {
+        write!(f, "no kind has type {}", self.0)
+    }
+}
+
+impl Error for UnknownType {}
+
+// The kind with a type number.
+impl TryFrom<u32> for Kind {
+    type Error = UnknownType;
+
+    ghost try_from_gives = { Typed };
+
+    fn try_from(number: u32) -> Result<Kind, UnknownType> {
+        Kind::of_type(number).ok_or(UnknownType(number))
     }
 }
 
@@ -80,7 +111,7 @@ pub fn map_binding_type(kind: EntryKind) -> Option<u32>
     ensures { result ≡ type_of kind }
 {
     match kind {
-        EntryKind::Descriptor(kind) => Some(kind.type_number()),
+        EntryKind::Descriptor(kind) => Some(u32::from(kind)),
         EntryKind::ExternalTexture => None,
     }
 }

@@ -3,18 +3,18 @@ ghost use Rattle.std.specs.Prelude.{◌≡◌};
 ghost use Rattle.conversion.specs.Results.{call_number, refusal_number, plain_error, pool_error, error_of};
 
 // The calls that make something, and can be refused with a result number.
-#[derive(Clone, Copy)]
+#[derive(Clone, Copy, Debug, PartialEq, Eq)]
 pub enum DeviceCall {
     Layout,
     Pool,
     Set,
 }
 
-impl DeviceCall {
-    pub fn number(self) -> u32
-        ensures { result ≡ call_number self }
-    {
-        match self {
+impl From<DeviceCall> for u32 {
+    ghost from_gives = { λ call number. number ≡ call_number call };
+
+    fn from(call: DeviceCall) -> u32 {
+        match call {
             DeviceCall::Layout => 1,
             DeviceCall::Pool => 2,
             DeviceCall::Set => 3,
@@ -23,18 +23,18 @@ impl DeviceCall {
 }
 
 // What a refused call means: a memory fault, or another.
-#[derive(Clone, Copy)]
+#[derive(Clone, Copy, Debug, PartialEq, Eq)]
 pub enum DeviceError {
     OutOfMemory,
     Unexpected,
 }
 
-impl DeviceError {
-    // The number of the refusal.
-    pub fn number(self) -> u32
-        ensures { result ≡ refusal_number self }
-    {
-        match self {
+// The number of the refusal.
+impl From<DeviceError> for u32 {
+    ghost from_gives = { λ error number. number ≡ refusal_number error };
+
+    fn from(error: DeviceError) -> u32 {
+        match error {
             DeviceError::OutOfMemory => 13,
             DeviceError::Unexpected => 14,
         }

@@ -23,7 +23,7 @@ fn refusal(entries: &[LayoutEntry]) -> Option<(u32, usize)> {
     match check_layout(entries) {
         Ok(_) => None,
         Err(fault) => {
-            let report = fault.report();
+            let report = FaultReport::from(fault);
             Some((report.number, report.entry))
         }
     }
@@ -49,10 +49,10 @@ fn type_numbers(rt: HostRuntime) {
             map_binding_type(EntryKind::Descriptor(*kind)),
             Some(*number)
         );
-        assert!(rt; Kind::of_type(*number) == Some(*kind));
+        assert!(rt; Kind::try_from(*number) == Ok(*kind));
     }
     assert!(rt; Kind::at_place(8).is_none());
-    assert!(rt; Kind::of_type(1).is_none());
+    assert!(rt; Kind::try_from(1) == Err(UnknownType(1)));
     assert_eq!(rt; map_binding_type(EntryKind::ExternalTexture), None);
 }
 
@@ -148,14 +148,14 @@ fn keys(rt: HostRuntime) -> Result<(), Fail> {
 fn results(rt: HostRuntime) {
     let calls = [DeviceCall::Layout, DeviceCall::Pool, DeviceCall::Set];
     for (i, call) in calls.iter().enumerate() {
-        assert_eq!(rt; call.number() as usize, i + 1);
-        assert_eq!(rt; map_result(*call, -1).number(), 13);
-        assert_eq!(rt; map_result(*call, -2).number(), 13);
+        assert_eq!(rt; u32::from(*call) as usize, i + 1);
+        assert_eq!(rt; u32::from(map_result(*call, -1)), 13);
+        assert_eq!(rt; u32::from(map_result(*call, -2)), 13);
         for other in [-1000069000, -13, -12, -4, -3, 0, 1, i32::MAX, i32::MIN] {
-            assert_eq!(rt; map_result(*call, other).number(), 14);
+            assert_eq!(rt; u32::from(map_result(*call, other)), 14);
         }
     }
-    assert_eq!(rt; map_result(DeviceCall::Pool, -1000161000).number(), 13);
-    assert_eq!(rt; map_result(DeviceCall::Layout, -1000161000).number(), 14);
-    assert_eq!(rt; map_result(DeviceCall::Set, -1000161000).number(), 14);
+    assert_eq!(rt; u32::from(map_result(DeviceCall::Pool, -1000161000)), 13);
+    assert_eq!(rt; u32::from(map_result(DeviceCall::Layout, -1000161000)), 14);
+    assert_eq!(rt; u32::from(map_result(DeviceCall::Set, -1000161000)), 14);
 }

@@ -3,6 +3,7 @@ use Rattle.conversion.specs.Layouts.{device_bindings, no_binding}
 use Rattle.conversion.proofs.bindings.device_bindings.Given as goal
 
 abbrev pub invariant-loop-i : goal.invariant-loop-i
-invariant-loop-i l =
-    (l.rows ≡ device_bindings l.partially_bound (take l.i l.entries) ++ replicate (32 - l.i) no_binding)
-    × (length l.rows ≡ 32)
+invariant-loop-i l = record {
+  filled : l.rows ≡ device_bindings l.partially_bound (take l.i l.listed) ++ replicate (32 - l.i) no_binding;
+  all : length l.rows ≡ 32;
+}
