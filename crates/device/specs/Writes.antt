@@ -10,6 +10,7 @@ use Rattle.conversion.specs.declared.bindings.DeviceBinding.{DeviceBinding}
 use Rattle.device.specs.declared.records.ImageRecord.{ImageRecord}
 use Rattle.device.specs.declared.records.BufferRecord.{BufferRecord}
 use Rattle.device.specs.declared.records.AccelerationRecord.{AccelerationRecord}
+use Rattle.device.specs.declared.records.Records.{Records}
 use Rattle.device.specs.declared.records.Write.{Write}
 use Rattle.device.specs.declared.records.RecordList.{RecordList}
 use Rattle.device.specs.declared.records.RecordList.TheVariants.{Images, Buffers, Accelerations}
@@ -21,9 +22,9 @@ pub record Lists : Type 0 where
   pub buffers : List BufferRecord
   pub accelerations : List AccelerationRecord
 
--- the lists by their parts
-abbrev pub lists_of : List ImageRecord → List BufferRecord → List AccelerationRecord → Lists
-lists_of is bs as' = record { images = is; buffers = bs; accelerations = as' }
+-- the lists that records are lent from
+abbrev pub lists_in : Records → Lists
+lists_in r = record { images = r.images.now; buffers = r.buffers.now; accelerations = r.accelerations.now }
 
 -- the list that holds a kind's records
 abbrev pub records_of : Kind → RecordList

@@ -1,12 +1,12 @@
 // The device, by what it holds and what its calls change.
 ghost use Rattle.device.specs.Meaning.{State};
 ghost use Rattle.device.specs.Fair.{Fair};
-ghost use Rattle.device.specs.Writes.{lists_of};
+ghost use Rattle.device.specs.Writes.{lists_in};
 ghost use Rattle.device.specs.Calls.{LayoutMade, LayoutGone, PoolMade, PoolGone, SetMade, SetFreed, Updated};
 ghost use Rattle.device.specs.Requests.{Request, create_layout, destroy_layout, create_pool, destroy_pool, allocate_set, free_set, update_sets};
 
 use crate::faults::DeviceFault;
-use crate::records::{AccelerationRecord, BufferRecord, ImageRecord, PoolSize, Write};
+use crate::records::{PoolSize, Records, Write};
 use conversion::bindings::DeviceBinding;
 
 pub trait Device {
@@ -40,15 +40,9 @@ pub trait Device {
         ensures held { SetFreed (meaning self.old) pool set result (meaning self.new) }
         ensures one { did self.old (free_set pool set) self.new };
 
-    fn update_sets(
-        &mut self,
-        writes: &[Write],
-        images: &[ImageRecord],
-        buffers: &[BufferRecord],
-        accelerations: &[AccelerationRecord],
-    )
-        ensures held { Updated (meaning self.old) writes.now (lists_of images.now buffers.now accelerations.now) (meaning self.new) }
-        ensures one { did self.old (update_sets writes.now (lists_of images.now buffers.now accelerations.now)) self.new };
+    fn update_sets(&mut self, writes: &[Write], records: Records<'_>)
+        ensures held { Updated (meaning self.old) writes.now (lists_in records.entry) (meaning self.new) }
+        ensures one { did self.old (update_sets writes.now (lists_in records.entry)) self.new };
 
     // Obstacles and handles are such as the rules allow.
     ghost fair: { (x : Self) → Fair (meaning x) };

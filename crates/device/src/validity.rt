@@ -9,30 +9,20 @@ use conversion::kinds::Kind;
 fn is_unknown_type(number: u32) -> bool
     ensures { result ≡ unknown_type number }
 {
-    Kind::of_type(number).is_none()
+    Kind::try_from(number).is_err()
 }
 
 // Whether a binding has a type that is none of the eight.
 pub fn is_invalid_layout(bindings: &[DeviceBinding]) -> bool
     ensures { result ≡ invalid_layout bindings.now }
 {
-    for binding in bindings {
-        if is_unknown_type(binding.descriptor_type) {
-            return true;
-        }
-    }
-    false
+    bindings.iter().any(|b| is_unknown_type(b.descriptor_type))
 }
 
 fn has_type(sizes: &[PoolSize], number: u32) -> bool
     ensures { result ≡ has_type number sizes.now }
 {
-    for size in sizes {
-        if size.descriptor_type == number {
-            return true;
-        }
-    }
-    false
+    sizes.iter().any(|size| size.descriptor_type == number)
 }
 
 fn is_invalid_size(size: &PoolSize, before: &[PoolSize]) -> bool
@@ -48,7 +38,7 @@ pub fn is_invalid_pool(most: u32, sizes: &[PoolSize]) -> bool
     ensures { result ≡ invalid_pool most sizes.now }
 {
     for (i, size) in sizes.iter().enumerate() {
-        if is_invalid_size(size, &sizes[0..i]) {
+        if is_invalid_size(size, &sizes[..i]) {
             return true;
         }
     }

@@ -32,7 +32,7 @@ pub const NO_BINDINGS: Bindings = Bindings {
 fn of_kind(binding: &DeviceBinding, kind: Kind) -> u32
     ensures { result ≡ of_kind kind binding.now }
 {
-    if binding.descriptor_type == kind.type_number() {
+    if binding.descriptor_type == u32::from(kind) {
         binding.count
     } else {
         0

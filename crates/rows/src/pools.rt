@@ -45,7 +45,7 @@ fn size_of(sizes: &[PoolSize], kind: Kind) -> u32
 {
     let mut sum = 0;
     for size in sizes {
-        if size.descriptor_type == kind.type_number() {
+        if size.descriptor_type == u32::from(kind) {
             sum += size.count;
         }
     }

@@ -4,19 +4,15 @@ use Rattle.device.specs.declared.records.PoolSize.{PoolSize}
 use Rattle.device.specs.Calls.{invalid_size, invalid_size_at, no_size}
 use Rattle.device.proofs.validity.is_invalid_pool.Goals as goal
 
--- a part from the start is lent as `take (i - 0)`
-tested : (ss : List PoolSize) (i : ℕ) (b : Bool) → b ≡ invalid_size (get_or ss i no_size) (take (i - 0) ss) → invalid_size_at ss i ≡ b
-tested ss i b e = let z : i - 0 ≡ i = omega arith in sym (e ∙ ap (λ n. invalid_size (get_or ss i no_size) (take n ss)) z)
-
 pub returns-then-is_invalid_size : goal.returns-then-is_invalid_size
 returns-then-is_invalid_size c =
     let ss = c.args.sizes.now in
-    sym (ap (λ o. is_some o || eqb c.args.most 0) (first_at (invalid_size_at ss) c.loop-i.i (length ss) c.loop-i-test.true c.loop-i.invariant (tested ss c.loop-i.i _ c.if-is_invalid_size.ensures)))
+    sym (ap (λ o. is_some o || eqb c.args.most 0) (first_at (invalid_size_at ss) c.loop-i.i (length ss) c.loop-i-test.true c.loop-i.invariant (sym c.if-is_invalid_size.ensures)))
 
 pub loop-i-preserved : goal.loop-i-preserved
 loop-i-preserved c =
     let ss = c.args.sizes.now in
-    first_next (invalid_size_at ss) c.loop-i.i c.loop-i.invariant (tested ss c.loop-i.i _ c.if-is_invalid_size.ensures)
+    first_next (invalid_size_at ss) c.loop-i.i c.loop-i.invariant (sym c.if-is_invalid_size.ensures)
 
 pub returns : goal.returns
 returns c =

@@ -7,11 +7,11 @@ use Rattle.device.specs.Meaning.{size_of}
 use Rattle.device.specs.Calls.{no_size}
 use Rattle.rows.proofs.Sizes.{size_alone}
 use Rattle.rows.proofs.pools.size_of.Goals as goal
-use Rattle.rows.proofs.pools.size_of.Goals.{then-size-type_number, else-size-type_number}
+use Rattle.rows.proofs.pools.size_of.Goals.{then-size-from, else-size-from}
 
 pub overflow_add-sum : goal.overflow_add-sum
 overflow_add-sum c =
-    let none = size_alone c.args.kind c.args.sizes.now c.loop-size.size-index c.requires c.loop-size-test.true (c.if-size-type_number.true ∙ c.type_number.ensures) in
+    let none = size_alone c.args.kind c.args.sizes.now c.loop-size.size-index c.requires c.loop-size-test.true (c.if-size-from.true ∙ c.type_number.ensures) in
     omega (arith, none, c.loop-size.invariant)
 
 pub loop-size-preserved : goal.loop-size-preserved
@@ -22,13 +22,13 @@ loop-size-preserved c =
     let s = get_or ss i no_size in
     let more = sum_by_more (λ x. cond (eqb x.descriptor_type (type_number k)) x.count 0) ss i no_size c.loop-size-test.true in
     let number = c.type_number.ensures in
-    elim c.if-size-type_number.branch [
-      | then-size-type_number w ↦
-          let same : s.descriptor_type ≡ type_number k = w.if-size-type_number.true ∙ number in
+    elim c.if-size-from.branch [
+      | then-size-from w ↦
+          let same : s.descriptor_type ≡ type_number k = w.if-size-from.true ∙ number in
           let counts : cond (eqb s.descriptor_type (type_number k)) s.count 0 ≡ s.count = grind (arith, nat_tests) in
           omega (arith, more, counts, w.sum-is, c.loop-size.invariant)
-      | else-size-type_number w ↦
-          let other : (s.descriptor_type ≡ type_number k → ⊥) = λ e. w.if-size-type_number.false (e ∙ sym number) in
+      | else-size-from w ↦
+          let other : (s.descriptor_type ≡ type_number k → ⊥) = λ e. w.if-size-from.false (e ∙ sym number) in
           let counts : cond (eqb s.descriptor_type (type_number k)) s.count 0 ≡ 0 = grind (arith, nat_tests) in
           omega (arith, more, counts, w.sum-is, c.loop-size.invariant)
     ]
