@@ -1,9 +1,11 @@
 -- What is fixed, by what the code looks at.
-use Rattle.std.proofs.Common.{◌≡◌, ℕ, ◌+◌, ◌-◌, ◌<◌, ◌≤◌, true, false, ltb, leb, List, length, Some, Ok, Err, refl, arith}
+use Rattle.std.proofs.Common.{◌≡◌, ℕ, ℤ, Result, ◌+◌, ◌-◌, ◌<◌, ◌≤◌, true, false, ltb, leb, List, length, Some, Ok, Err, refl, arith}
 use Rattle.std.proofs.lemmas.Bool.Decides.{nat_tests}
 use Rattle.conversion.specs.declared.bindings.DeviceBinding.{DeviceBinding}
 use Rattle.device.specs.Meaning.{sum_below}
-use Rattle.device.specs.Results.{no_device_memory}
+use Rattle.conversion.specs.declared.results.DeviceCall.{DeviceCall}
+use Rattle.device.specs.declared.faults.DeviceFault.{DeviceFault}
+use Rattle.device.specs.Results.{no_device_memory, answered}
 use Rattle.device.proofs.Below.{below_same}
 use Rattle.segments.specs.Segments.{length_at, used, size}
 use Rattle.rows.specs.Tables.{unused_row}
@@ -30,3 +32,13 @@ module _ (d : CountingDevice) (n row h : ℕ) (free : unused_row d.holdings.sets
       let u = used_is d in
       let b : ltb (size d.records) (sum_below 1024 (total_at d.holdings) + n) ≡ true = grind (arith, nat_tests) in
       rw (free, next, b) refl
+
+-- a handle that is answered is what was fixed
+pub answered_ok : (c : DeviceCall) (r : Result ℕ ℤ) (h : ℕ) → answered c r ≡ Ok h → r ≡ Ok h
+answered_ok c (Ok k) h e = cc
+answered_ok c (Err n) h e = cc
+
+-- and a refusal names the obstacle that was
+pub answered_err : (c : DeviceCall) (r : Result ℕ ℤ) (f : DeviceFault) → answered c r ≡ Err f → r ≡ Err f.result
+answered_err c (Ok k) f e = cc
+answered_err c (Err n) f e = cc

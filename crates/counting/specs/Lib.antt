@@ -1,3 +1,4 @@
+pub mod Obstacles
 pub mod Given
 pub mod Counting
 pub mod Steps

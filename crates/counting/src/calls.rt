@@ -1,5 +1,8 @@
 // What the calls of the counting device are made of.
 ghost use Rattle.std.specs.Prelude.{◌≡◌, Err, MatchResult};
+ghost use Rattle.conversion.specs.declared.results.DeviceCall.TheVariants.{Layout, Pool, Set};
+ghost use Rattle.device.specs.Results.{answered};
+ghost use Rattle.counting.specs.Obstacles.{result_of};
 ghost use Rattle.counting.specs.Counting.{next_handle, fixed_layout, fixed_pool, fixed_set};
 ghost use Rattle.counting.specs.Steps.{LayoutPlaced, PoolPlaced, SetPlaced, Marked};
 
@@ -9,14 +12,41 @@ use conversion::results::DeviceCall;
 use device::faults::DeviceFault;
 use rows::bindings::Bindings;
 
+// What stands in the way of a making call.
+#[derive(Clone, Copy)]
+pub(crate) enum Obstacle {
+    NoHostMemory,
+    NoDeviceMemory,
+    // what an invalid call is answered with
+    Unknown,
+    OutOfPool,
+}
+
 // VkResult
-pub(crate) const NO_HOST_MEMORY: i32 = -1;
+impl From<Obstacle> for i32 {
+    ghost from_gives = { λ obstacle res. res ≡ result_of obstacle };
 
-pub(crate) const NO_DEVICE_MEMORY: i32 = -2;
+    fn from(obstacle: Obstacle) -> i32 {
+        match obstacle {
+            Obstacle::NoHostMemory => -1,
+            Obstacle::NoDeviceMemory => -2,
+            Obstacle::Unknown => -13,
+            Obstacle::OutOfPool => -1000069000,
+        }
+    }
+}
 
-pub(crate) const UNKNOWN: i32 = -13;
-
-pub(crate) const OUT_OF_POOL: i32 = -1000069000;
+impl Obstacle {
+    // The refusal of the call.
+    pub(crate) fn to(self, call: DeviceCall) -> DeviceFault
+        ensures { result ≡ record { call = call; result = result_of self } }
+    {
+        DeviceFault {
+            call,
+            result: i32::from(self),
+        }
+    }
+}
 
 // Where something that can be made goes.
 #[derive(Clone, Copy)]
@@ -32,64 +62,67 @@ pub(crate) struct LayoutPlace {
 }
 
 impl CountingDevice {
-    fn next_handle(&self) -> Result<u64, i32>
-        ensures { result ≡ next_handle self.now }
+    fn next_handle(&self, call: DeviceCall) -> Result<u64, DeviceFault>
+        ensures { result ≡ answered call (next_handle self.now) }
     {
         if self.last < u64::MAX {
             Ok(self.last + 1)
         } else {
-            Err(NO_HOST_MEMORY)
+            Err(Obstacle::NoHostMemory.to(call))
         }
     }
 
-    // The obstacle to a layout, or where it goes.
-    pub(crate) fn layout_place(&self, bindings: &[DeviceBinding]) -> Result<LayoutPlace, i32>
-        ensures { MatchResult result (LayoutPlaced self.now bindings.now) (λ e. fixed_layout self.now bindings.now ≡ Err e) }
+    // The refusal of a layout, or where it goes.
+    pub(crate) fn layout_place(
+        &self,
+        bindings: &[DeviceBinding],
+    ) -> Result<LayoutPlace, DeviceFault>
+        ensures { MatchResult result (LayoutPlaced self.now bindings.now) (λ fault. answered Layout (fixed_layout self.now bindings.now) ≡ Err fault) }
     {
         let Some(bindings) = Bindings::of(bindings) else {
-            return Err(NO_HOST_MEMORY);
+            return Err(Obstacle::NoHostMemory.to(DeviceCall::Layout));
         };
         let Some(row) = self.holdings.free_layout_row() else {
-            return Err(NO_HOST_MEMORY);
+            return Err(Obstacle::NoHostMemory.to(DeviceCall::Layout));
         };
-        let handle = self.next_handle()?;
+        let handle = self.next_handle(DeviceCall::Layout)?;
         Ok(LayoutPlace {
             place: Place { row, handle },
             bindings,
         })
     }
 
-    // The obstacle to a pool, or where it goes.
-    pub(crate) fn pool_place(&self) -> Result<Place, i32>
-        ensures { MatchResult result (PoolPlaced self.now) (λ e. fixed_pool self.now ≡ Err e) }
+    // The refusal of a pool, or where it goes.
+    pub(crate) fn pool_place(&self) -> Result<Place, DeviceFault>
+        ensures { MatchResult result (PoolPlaced self.now) (λ fault. answered Pool (fixed_pool self.now) ≡ Err fault) }
     {
         let Some(row) = self.holdings.pools.unused_row() else {
-            return Err(NO_HOST_MEMORY);
+            return Err(Obstacle::NoHostMemory.to(DeviceCall::Pool));
         };
-        let handle = self.next_handle()?;
+        let handle = self.next_handle(DeviceCall::Pool)?;
         Ok(Place { row, handle })
     }
 
-    // The obstacle to a set with so many descriptors, or where it goes.
-    pub(crate) fn set_place(&self, total: usize) -> Result<Place, i32>
-        ensures { MatchResult result (SetPlaced self.now total) (λ e. fixed_set self.now total ≡ Err e) }
+    // The refusal of a set with so many descriptors, or where it goes.
+    pub(crate) fn set_place(&self, total: usize) -> Result<Place, DeviceFault>
+        ensures { MatchResult result (SetPlaced self.now total) (λ fault. answered Set (fixed_set self.now total) ≡ Err fault) }
     {
         let Some(row) = self.holdings.sets.unused_row() else {
-            return Err(NO_HOST_MEMORY);
+            return Err(Obstacle::NoHostMemory.to(DeviceCall::Set));
         };
-        let handle = self.next_handle()?;
+        let handle = self.next_handle(DeviceCall::Set)?;
         if total > self.records.size() - self.records.used() {
-            return Err(NO_DEVICE_MEMORY);
+            return Err(Obstacle::NoDeviceMemory.to(DeviceCall::Set));
         }
         Ok(Place { row, handle })
     }
 
     // A call that is invalid, or finds its pool exhausted: it sets the mark, and changes nothing else.
-    pub(crate) fn refused(&mut self, call: DeviceCall, res: i32) -> DeviceFault
-        ensures fault { result ≡ record { call = call; result = res } }
+    pub(crate) fn refused(&mut self, call: DeviceCall, obstacle: Obstacle) -> DeviceFault
+        ensures fault { result ≡ record { call = call; result = result_of obstacle } }
         ensures marked { Marked self.old self.new }
     {
         self.mark = true;
-        DeviceFault { call, result: res }
+        obstacle.to(call)
     }
 }

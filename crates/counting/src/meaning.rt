@@ -2,13 +2,13 @@
 ghost use Rattle.counting.specs.Counting.{meaning_of, Counted};
 ghost use Rattle.counting.specs.Fairly.{is_fair};
 
-use crate::calls::{LayoutPlace, OUT_OF_POOL, Place, UNKNOWN};
+use crate::calls::{LayoutPlace, Obstacle};
 use crate::counting::CountingDevice;
 use conversion::bindings::DeviceBinding;
 use conversion::results::DeviceCall;
 use device::faults::DeviceFault;
 use device::meaning::Device;
-use device::records::{AccelerationRecord, BufferRecord, ImageRecord, PoolSize, Write};
+use device::records::{PoolSize, Records, Write};
 use device::validity::is_invalid_layout;
 use rows::holdings::SetRow;
 use rows::pools::{PoolRow, is_unfit};
@@ -26,20 +26,13 @@ impl Device for CountingDevice {
         flags: u32,
     ) -> Result<u64, DeviceFault> {
         if is_invalid_layout(bindings) {
-            return Err(self.refused(DeviceCall::Layout, UNKNOWN));
+            return Err(self.refused(DeviceCall::Layout, Obstacle::Unknown));
         }
-        match self.layout_place(bindings) {
-            Ok(LayoutPlace { place, bindings }) => {
-                self.last = place.handle;
-                let _ = self.holdings.layouts.put(place.row, place.handle, flags);
-                self.holdings.bindings[place.row] = bindings;
-                Ok(place.handle)
-            }
-            Err(result) => Err(DeviceFault {
-                call: DeviceCall::Layout,
-                result,
-            }),
-        }
+        let LayoutPlace { place, bindings } = self.layout_place(bindings)?;
+        self.last = place.handle;
+        let _ = self.holdings.layouts.put(place.row, place.handle, flags);
+        self.holdings.bindings[place.row] = bindings;
+        Ok(place.handle)
     }
 
     fn destroy_layout(&mut self, layout: u64) {
@@ -55,19 +48,12 @@ impl Device for CountingDevice {
         flags: u32,
     ) -> Result<u64, DeviceFault> {
         let Some(pool) = PoolRow::of(most, sizes, flags) else {
-            return Err(self.refused(DeviceCall::Pool, UNKNOWN));
+            return Err(self.refused(DeviceCall::Pool, Obstacle::Unknown));
         };
-        match self.pool_place() {
-            Ok(place) => {
-                self.last = place.handle;
-                let _ = self.holdings.pools.put(place.row, place.handle, pool);
-                Ok(place.handle)
-            }
-            Err(result) => Err(DeviceFault {
-                call: DeviceCall::Pool,
-                result,
-            }),
-        }
+        let place = self.pool_place()?;
+        self.last = place.handle;
+        let _ = self.holdings.pools.put(place.row, place.handle, pool);
+        Ok(place.handle)
     }
 
     fn destroy_pool(&mut self, pool: u64) {
@@ -79,39 +65,29 @@ impl Device for CountingDevice {
 
     fn allocate_set(&mut self, pool: u64, layout: u64) -> Result<u64, DeviceFault> {
         let Some(p) = self.holdings.pools.find(pool) else {
-            return Err(self.refused(DeviceCall::Set, UNKNOWN));
+            return Err(self.refused(DeviceCall::Set, Obstacle::Unknown));
         };
         let Some(l) = self.holdings.layouts.find(layout) else {
-            return Err(self.refused(DeviceCall::Set, UNKNOWN));
+            return Err(self.refused(DeviceCall::Set, Obstacle::Unknown));
         };
         if is_unfit(l.value, &p.value) {
-            return Err(self.refused(DeviceCall::Set, UNKNOWN));
+            return Err(self.refused(DeviceCall::Set, Obstacle::Unknown));
         }
         if self.holdings.is_full(pool, &p.value, l.row) {
-            return Err(self.refused(DeviceCall::Set, OUT_OF_POOL));
+            return Err(self.refused(DeviceCall::Set, Obstacle::OutOfPool));
         }
         let total = self.holdings.total(l.row);
-        match self.set_place(total) {
-            Ok(place) => {
-                self.last = place.handle;
-                let counts = self.holdings.counts(l.row, &p.value.sizes);
-                self.holdings.pools.change(p.row, p.value.with_set(&counts));
-                let _ = self.holdings.sets.put(
-                    place.row,
-                    place.handle,
-                    SetRow {
-                        pool,
-                        layout: l.row,
-                    },
-                );
-                let _ = self.records.make(place.row, total);
-                Ok(place.handle)
-            }
-            Err(result) => Err(DeviceFault {
-                call: DeviceCall::Set,
-                result,
-            }),
-        }
+        let place = self.set_place(total)?;
+        self.last = place.handle;
+        let counts = self.holdings.counts(l.row, &p.value.sizes);
+        self.holdings.pools.change(p.row, p.value.with_set(&counts));
+        let set = SetRow {
+            pool,
+            layout: l.row,
+        };
+        let _ = self.holdings.sets.put(place.row, place.handle, set);
+        let _ = self.records.make(place.row, total);
+        Ok(place.handle)
     }
 
     fn free_set(&mut self, pool: u64, set: u64) -> bool {
@@ -124,15 +100,9 @@ impl Device for CountingDevice {
         }
     }
 
-    fn update_sets(
-        &mut self,
-        writes: &[Write],
-        images: &[ImageRecord],
-        buffers: &[BufferRecord],
-        accelerations: &[AccelerationRecord],
-    ) {
+    fn update_sets(&mut self, writes: &[Write], records: Records<'_>) {
         for write in writes {
-            self.apply(write, images, buffers, accelerations);
+            self.apply(write, records);
         }
     }
 }

@@ -11,7 +11,7 @@ use Rattle.rows.proofs.pools.size_of.Goals.{then-size-from, else-size-from}
 
 pub overflow_add-sum : goal.overflow_add-sum
 overflow_add-sum c =
-    let none = size_alone c.args.kind c.args.sizes.now c.loop-size.size-index c.requires c.loop-size-test.true (c.if-size-from.true ∙ c.type_number.ensures) in
+    let none = size_alone c.args.kind c.args.sizes.now c.loop-size.size-index c.requires c.loop-size-test.true (c.if-size-from.true ∙ c.from.ensures) in
     omega (arith, none, c.loop-size.invariant)
 
 pub loop-size-preserved : goal.loop-size-preserved
@@ -21,7 +21,7 @@ loop-size-preserved c =
     let k = c.args.kind in
     let s = get_or ss i no_size in
     let more = sum_by_more (λ x. cond (eqb x.descriptor_type (type_number k)) x.count 0) ss i no_size c.loop-size-test.true in
-    let number = c.type_number.ensures in
+    let number = c.from.ensures in
     elim c.if-size-from.branch [
       | then-size-from w ↦
           let same : s.descriptor_type ≡ type_number k = w.if-size-from.true ∙ number in

@@ -1,10 +1,12 @@
-use Rattle.std.proofs.Common.{◌≡◌, ◌||◌, eqb, Some, Err, sym, refl, ap, ◌∙◌, ap₂, arith, w32, to_z, of_z, rules}
+use Rattle.std.proofs.Common.{◌≡◌, ◌||◌, eqb, Some, Err, sym, refl, ap, ◌∙◌, ap₂, subst, arith}
 use Rattle.std.specs.Map.{update}
+use Rattle.std.proofs.lemmas.Result.{err_from_is_err_and}
 use Rattle.conversion.specs.declared.results.DeviceCall.TheVariants.{Set}
 use Rattle.device.specs.Results.{answered, out_of_pool}
-use Rattle.device.specs.Calls.{sets_mark, new_set}
-use Rattle.counting.specs.Counting.{last_after, fixed_set, sets_of}
+use Rattle.device.specs.Calls.{SetMade, sets_mark, new_set}
+use Rattle.counting.specs.Counting.{meaning_of, last_after, fixed_set, sets_of}
 use Rattle.counting.specs.Kept.{given_later, given_change}
+use Rattle.counting.proofs.Fixed.{answered_err}
 use Rattle.counting.proofs.Placed.{placed_next, placed_given, placed_sized, placed_sets}
 use Rattle.counting.proofs.Taken.{refused_set, bindings_there, remembers, or_last, or_none, valid_set, answer_full, answer_fixed, unmarked}
 use Rattle.counting.proofs.meaning.CountingDeviceDevice.allocate_set.Goals as goal
@@ -25,14 +27,14 @@ returns-then-is_full c =
       one = refused.ensures.marked.last ∙ ap (last_after d.last) (sym answer);
     }
 
-pub invariant_of-self-in-Ok-2 : goal.invariant_of-self-in-Ok-2
-invariant_of-self-in-Ok-2 c =
+pub invariant_of-self-3 : goal.invariant_of-self-3
+invariant_of-self-3 c =
     let d = c.args.self.now in
     let p = c.in-Some.p in
     let l = c.in-Some-find.l in
     let n = c.total-total.result in
-    let place = c.in-Ok.place in
-    let placed = c.in-Ok.ensures in
+    let place = c.in_ok-place.place in
+    let placed = c.in_ok-place.ensures in
     let next = placed_next d n place placed in
     record {
       layouts = given_later d.holdings.layouts d.holdings.layouts (omega (arith, next.0)) d.layouts;
@@ -42,8 +44,8 @@ invariant_of-self-in-Ok-2 c =
       word = next.1;
     }
 
-pub returns-in-Ok : goal.returns-in-Ok
-returns-in-Ok c =
+pub returns : goal.returns
+returns c =
     let d = c.args.self.now in
     let p = c.in-Some.p in
     let l = c.in-Some-find.l in
@@ -51,8 +53,8 @@ returns-in-Ok c =
     let layouts = c.in-Some-find.ensures in
     let fit = c.if-is_unfit.ensures in
     let n = c.total-total.result in
-    let place = c.in-Ok.place in
-    let placed = c.in-Ok.ensures in
+    let place = c.in_ok-place.place in
+    let placed = c.in_ok-place.ensures in
     let answer = answer_fixed d d.word c.args.pool c.args.layout p.value p.row l.row l.value pools layouts fit (sym c.if-is_full.ensures) in
     let given = answer ∙ (ap (fixed_set d) (sym c.total-total.ensures.is) ∙ placed.fixed) in
     let valid = valid_set d d.word c.args.pool c.args.layout p.value p.row l.row l.value pools layouts fit in
@@ -71,26 +73,32 @@ returns-in-Ok c =
       one = ap (last_after d.last) (sym given);
     }
 
-pub returns-in-Err : goal.returns-in-Err
-returns-in-Err c =
+pub returns-in_err-place : goal.returns-in_err-place
+returns-in_err-place c =
     let d = c.args.self.now in
     let p = c.in-Some.p in
     let l = c.in-Some-find.l in
     let pools = c.in-Some.ensures in
     let layouts = c.in-Some-find.ensures in
     let fit = c.if-is_unfit.ensures in
-    let answer = answer_fixed d d.word c.args.pool c.args.layout p.value p.row l.row l.value pools layouts fit (sym c.if-is_full.ensures) in
+    let n = c.total-total.result in
+    let fault = c.in_err-place.field-0.0 in
+    let passed = err_from_is_err_and c.from_residual.result c.from_residual.ensures.1 in
+    let answer =
+      answer_fixed d d.word c.args.pool c.args.layout p.value p.row l.row l.value pools layouts fit (sym c.if-is_full.ensures)
+      ∙ ap (fixed_set d) (sym c.total-total.ensures.is) in
     let valid = valid_set d d.word c.args.pool c.args.layout p.value p.row l.row l.value pools layouts fit in
-    let refused = answer ∙ (ap (fixed_set d) (sym c.total-total.ensures.is) ∙ c.in-Err.ensures) in
-    let back : to_z w32 (of_z w32 c.in-Err.result) ≡ c.in-Err.result = search rules in
+    let obstacle = answered_err Set (fixed_set d n) fault c.in_err-place.ensures in
+    let refused = answer ∙ obstacle in
+    let made : SetMade (meaning_of d) c.args.pool c.args.layout (Err fault) (meaning_of d) =
+      record {
+        answer = sym c.in_err-place.ensures ∙ ap (answered Set) (sym answer);
+        layouts = refl;
+        pools = refl;
+        sets = refl;
+        mark = or_none d.mark ∙ ap₂ (λ a b. d.mark || a || b) (sym valid) (sym (ap sets_mark refused ∙ unmarked d n fault.result obstacle));
+      } in
     record {
-      held =
-          record {
-            answer = ap (λ x. Err (record { call = Set; result = x })) back ∙ ap (answered Set) (sym refused);
-            layouts = refl;
-            pools = refl;
-            sets = refl;
-            mark = or_none d.mark ∙ ap₂ (λ a b. d.mark || a || b) (sym valid) (sym (ap sets_mark refused ∙ unmarked d c.total-total.result c.in-Err.result c.in-Err.ensures));
-          };
+      held = subst (λ r. SetMade (meaning_of d) c.args.pool c.args.layout r (meaning_of d)) (sym (passed.1 ∙ ap Err passed.2)) made;
       one = ap (last_after d.last) (sym refused);
     }

@@ -12,31 +12,31 @@ use Rattle.counting.proofs.meaning.CountingDeviceDevice.create_layout.Goals as g
 pub invariant_of-self : goal.invariant_of-self
 invariant_of-self c =
     let d = c.args.self.now in
-    let given = placed_given d c.args.bindings.now c.in-Ok.field-0 c.in-Ok.ensures c.args.flags c.put.new.self c.put.result c.put.ensures.answer c.put.ensures.rows in
-    ((d.holdings.whole, tt), (given.0, (given.1.0, (given.1.1, (d.sized, ((placed_next d c.args.bindings.now c.in-Ok.field-0 c.in-Ok.ensures).1, tt))))))
+    let given = placed_given d c.args.bindings.now c.in_ok-place.field-0 c.in_ok-place.ensures c.args.flags c.put.new.self c.put.result c.put.ensures.answer c.put.ensures.rows in
+    ((d.holdings.whole, tt), (given.0, (given.1.0, (given.1.1, (d.sized, ((placed_next d c.args.bindings.now c.in_ok-place.field-0 c.in_ok-place.ensures).1, tt))))))
 
 pub offset_bounds-self-place : goal.offset_bounds-self-place
-offset_bounds-self-place c = let lt = free_below c.args.self.now.holdings c.in-Ok.field-0.place.row c.in-Ok.ensures.row in omega (arith, lt)
+offset_bounds-self-place c = let lt = free_below c.args.self.now.holdings c.in_ok-place.field-0.place.row c.in_ok-place.ensures.row in omega (arith, lt)
 
 pub bounds-self-place : goal.bounds-self-place
-bounds-self-place c = free_below c.args.self.now.holdings c.in-Ok.field-0.place.row c.in-Ok.ensures.row
+bounds-self-place c = free_below c.args.self.now.holdings c.in_ok-place.field-0.place.row c.in_ok-place.ensures.row
 
-pub invariant_of-self-in-Ok : goal.invariant_of-self-in-Ok
-invariant_of-self-in-Ok c =
+pub invariant_of-self-2 : goal.invariant_of-self-2
+invariant_of-self-2 c =
     let d = c.args.self.now in
-    let p = c.in-Ok.field-0 in
-    let placed = c.in-Ok.ensures in
+    let p = c.in_ok-place.field-0 in
+    let placed = c.in_ok-place.ensures in
     let given = placed_given d c.args.bindings.now p placed c.args.flags c.put.new.self c.put.result c.put.ensures.answer c.put.ensures.rows in (
       (length-set d.holdings.bindings p.place.row p.bindings ∙ d.holdings.whole, tt),
       (given.0, (given.1.0, (given.1.1, ((λ i. d.sized i ∙ ap (λ f. held_total (f i)) (sym (placed_sets d c.args.bindings.now p placed))), ((placed_next d c.args.bindings.now p placed).1, tt))))),
     )
 
-pub returns-in-Ok : goal.returns-in-Ok
-returns-in-Ok c =
+pub returns : goal.returns
+returns c =
     let d = c.args.self.now in
     let bs = c.args.bindings.now in
-    let p = c.in-Ok.field-0 in
-    let placed = c.in-Ok.ensures in
+    let p = c.in_ok-place.field-0 in
+    let placed = c.in_ok-place.ensures in
     let valid = sym c.if-is_invalid_layout.ensures in
     let answer = placed_answer d bs p placed c.args.flags valid in
     record {

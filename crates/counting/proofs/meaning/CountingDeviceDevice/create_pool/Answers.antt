@@ -13,14 +13,14 @@ use Rattle.counting.proofs.meaning.CountingDeviceDevice.create_pool.Goals as goa
 pub invariant_of-self : goal.invariant_of-self
 invariant_of-self c =
     let d = c.args.self.now in
-    let given = placed_given d c.in-Ok.place c.in-Ok.ensures c.in-Some.pool c.put.new.self c.put.result c.put.ensures.answer c.put.ensures.rows in
-    ((d.holdings.whole, tt), (given.0, (given.1, (given.2, (d.sized, ((placed_next d c.in-Ok.place c.in-Ok.ensures).1, tt))))))
+    let given = placed_given d c.in_ok-place.place c.in_ok-place.ensures c.in-Some.pool c.put.new.self c.put.result c.put.ensures.answer c.put.ensures.rows in
+    ((d.holdings.whole, tt), (given.0, (given.1, (given.2, (d.sized, ((placed_next d c.in_ok-place.place c.in_ok-place.ensures).1, tt))))))
 
-pub returns-in-Ok : goal.returns-in-Ok
-returns-in-Ok c =
+pub returns : goal.returns
+returns c =
     let d = c.args.self.now in
-    let p = c.in-Ok.place in
-    let placed = c.in-Ok.ensures in
+    let p = c.in_ok-place.place in
+    let placed = c.in_ok-place.ensures in
     let sizes = c.args.sizes.now in
     let is = made_row (invalid_pool c.args.most sizes) (live_pool c.in-Some.pool) (new_pool c.args.most sizes c.args.flags) c.in-Some.ensures in
     let answer = placed_answer d p placed c.args.most sizes c.args.flags is.0 in

@@ -1,6 +1,6 @@
 use Rattle.std.proofs.Common.{◌||◌, sym, ap, ◌∙◌}
 use Rattle.std.proofs.lemmas.List.{at_drop_all}
-use Rattle.device.specs.Writes.{lists_of, after_writes, some_invalid}
+use Rattle.device.specs.Writes.{lists_in, after_writes, some_invalid}
 use Rattle.rows.specs.Holdings.{layouts_of, pools_of}
 use Rattle.counting.specs.Counting.{sets_of}
 use Rattle.counting.proofs.Applying.{sets_more, marks_more, no_writes, no_marks}
@@ -8,7 +8,7 @@ use Rattle.counting.proofs.meaning.CountingDeviceDevice.update_sets.Goals as goa
 
 pub loop-write-preserved : goal.loop-write-preserved
 loop-write-preserved c =
-    let l = lists_of c.args.images.now c.args.buffers.now c.args.accelerations.now in
+    let l = lists_in c.args.records in
     let ws = c.args.writes.now in
     let i = c.loop-write.write-index in
     let d = c.loop-write.self in
@@ -22,7 +22,7 @@ loop-write-preserved c =
 
 pub returns : goal.returns
 returns c =
-    let l = lists_of c.args.images.now c.args.buffers.now c.args.accelerations.now in
+    let l = lists_in c.args.records in
     let ws = c.args.writes.now in
     let i = c.loop-write.write-index in
     let e = c.loop-write.self in
