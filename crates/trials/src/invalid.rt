@@ -4,7 +4,7 @@ use conversion::bindings::DeviceBinding;
 use conversion::kinds::Kind;
 use counting::counting::CountingDevice;
 use device::meaning::Device;
-use device::records::{BufferRecord, PoolSize, Write};
+use device::records::{BufferRecord, PoolSize, Records, Write};
 use std::process::Abort;
 use std::test::*;
 
@@ -12,11 +12,11 @@ fn check_invalid_layout(
     rt: &(impl Abort + AllocGlobal),
     bindings: &[DeviceBinding],
 ) -> Result<(), Fail> {
-    let mut device = CountingDevice::open(rt.alloc(), 8)?;
-    expect_layout(rt, &mut device, bindings, 0, Err(INVALID))?;
-    assert!(rt; device.is_marked());
-    expect_held(rt, &device, [0, 0, 0, 0])?;
-    expect_layout(rt, &mut device, &[], 0, Ok(1))
+    let mut trial = Trial::open(rt, 8)?;
+    trial.expect_layout(bindings, 0, Err(INVALID))?;
+    assert!(rt; trial.device.is_marked());
+    trial.expect_held([0, 0, 0, 0])?;
+    trial.expect_layout(&[], 0, Ok(1))
 }
 
 #[test]
@@ -37,11 +37,11 @@ fn check_invalid_pool(
     most: u32,
     sizes: &[PoolSize],
 ) -> Result<(), Fail> {
-    let mut device = CountingDevice::open(rt.alloc(), 8)?;
-    expect_pool(rt, &mut device, most, sizes, 1, Err(INVALID))?;
-    assert!(rt; device.is_marked());
-    expect_held(rt, &device, [0, 0, 0, 0])?;
-    expect_pool(rt, &mut device, 1, &[], 1, Ok(1))
+    let mut trial = Trial::open(rt, 8)?;
+    trial.expect_pool(most, sizes, 1, Err(INVALID))?;
+    assert!(rt; trial.device.is_marked());
+    trial.expect_held([0, 0, 0, 0])?;
+    trial.expect_pool(1, &[], 1, Ok(1))
 }
 
 #[test]
@@ -67,18 +67,14 @@ fn invalid_pools(rt: HostRuntime) -> Result<(), Fail> {
 
 // Layouts 1 and 2 have a sampler, and 2 is for update after bind. Pool 3 has a place for one set, and is not.
 fn check_invalid_set(rt: &(impl Abort + AllocGlobal), pool: u64, layout: u64) -> Result<(), Fail> {
-    let mut device = open_with(rt, 8, &[1])?;
-    expect_layout(rt, &mut device, &[binding(Kind::Sampler, 1)], 2, Ok(2))?;
-    expect_pool(rt, &mut device, 1, &[size(Kind::Sampler, 1)], 1, Ok(3))?;
-    expect_sets(rt, &mut device, &[(pool, layout, Err(INVALID))])?;
-    assert!(rt; device.is_marked());
-    expect_held(rt, &device, [2, 1, 0, 0])?;
+    let mut trial = Trial::with_samplers(rt, 8, &[1])?;
+    trial.expect_layout(&[binding(Kind::Sampler, 1)], 2, Ok(2))?;
+    trial.expect_pool(1, &[size(Kind::Sampler, 1)], 1, Ok(3))?;
+    trial.expect_sets(&[(pool, layout, Err(INVALID))])?;
+    assert!(rt; trial.device.is_marked());
+    trial.expect_held([2, 1, 0, 0])?;
     // with the pool exhausted it is -13 all the same
-    expect_sets(
-        rt,
-        &mut device,
-        &[(3, 1, Ok(4)), (pool, layout, Err(INVALID))],
-    )
+    trial.expect_sets(&[(3, 1, Ok(4)), (pool, layout, Err(INVALID))])
 }
 
 #[test]
@@ -88,38 +84,40 @@ fn invalid_sets(rt: HostRuntime) -> Result<(), Fail> {
         check_invalid_set(&rt, pool, layout)?;
     }
     // a pool for update after bind takes sets of both sorts of layout
-    let mut device = open_with(&rt, 8, &[0])?;
-    expect_layout(&rt, &mut device, &[], 2, Ok(2))?;
-    expect_pool(&rt, &mut device, 2, &[], 3, Ok(3))?;
-    expect_sets(&rt, &mut device, &[(3, 1, Ok(4)), (3, 2, Ok(5))])?;
-    assert!(rt; !device.is_marked());
+    let mut trial = Trial::with_samplers(&rt, 8, &[0])?;
+    trial.expect_layout(&[], 2, Ok(2))?;
+    trial.expect_pool(2, &[], 3, Ok(3))?;
+    trial.expect_sets(&[(3, 1, Ok(4)), (3, 2, Ok(5))])?;
+    assert!(rt; !trial.device.is_marked());
     Ok(())
 }
 
 // Set 3 of layout 1 in pool 2 has two samplers in binding 0 and a uniform buffer in binding 1. There are three images and a buffer to write.
 fn is_marked_by(rt: &(impl Abort + AllocGlobal), write: Write) -> Result<bool, Fail> {
-    let mut device = CountingDevice::open(rt.alloc(), 8)?;
+    let mut trial = Trial::open(rt, 8)?;
     let bindings = [binding(Kind::Sampler, 2), binding(Kind::UniformBuffer, 1)];
     let sizes = [size(Kind::Sampler, 2), size(Kind::UniformBuffer, 1)];
-    expect_layout(rt, &mut device, &bindings, 0, Ok(1))?;
-    expect_pool(rt, &mut device, 1, &sizes, 1, Ok(2))?;
-    expect_sets(rt, &mut device, &[(2, 1, Ok(3))])?;
+    trial.expect_layout(&bindings, 0, Ok(1))?;
+    trial.expect_pool(1, &sizes, 1, Ok(2))?;
+    trial.expect_sets(&[(2, 1, Ok(3))])?;
     let buffer = BufferRecord {
         buffer: 7,
         offset: 0,
         range: 4,
     };
-    device.update_sets(
+    trial.device.update_sets(
         &[write],
-        &[sampler(4), sampler(5), sampler(6)],
-        &[buffer],
-        &[],
+        Records {
+            images: &[sampler(4), sampler(5), sampler(6)],
+            buffers: &[buffer],
+            accelerations: &[],
+        },
     );
-    expect_held(rt, &device, [1, 1, 1, 3])?;
-    let marked = device.is_marked();
-    let written = device.read_back(3, 0, 0).is_some()
-        || device.read_back(3, 0, 1).is_some()
-        || device.read_back(3, 1, 0).is_some();
+    trial.expect_held([1, 1, 1, 3])?;
+    let marked = trial.device.is_marked();
+    let written = trial.device.read_back(3, 0, 0).is_some()
+        || trial.device.read_back(3, 0, 1).is_some()
+        || trial.device.read_back(3, 1, 0).is_some();
     assert!(rt; marked != written);
     Ok(marked)
 }
@@ -206,25 +204,25 @@ fn invalid_writes(rt: HostRuntime) -> Result<(), Fail> {
 // Pools 2 and 3 have a place for one set of layout 1; set 4 is in pool 2.
 #[test]
 fn nothing_there(rt: HostRuntime) -> Result<(), Fail> {
-    let mut device = open_with(&rt, 8, &[0])?;
-    expect_pool(&rt, &mut device, 1, &[], 1, Ok(2))?;
-    expect_pool(&rt, &mut device, 1, &[], 1, Ok(3))?;
-    expect_sets(&rt, &mut device, &[(2, 1, Ok(4))])?;
+    let mut trial = Trial::with_samplers(&rt, 8, &[0])?;
+    trial.expect_pool(1, &[], 1, Ok(2))?;
+    trial.expect_pool(1, &[], 1, Ok(3))?;
+    trial.expect_sets(&[(2, 1, Ok(4))])?;
     for other in [0, 4, 9] {
-        device.destroy_layout(other);
-        device.destroy_pool(other);
-        assert!(rt; !device.free_set(other, 4) && !device.free_set(2, 0));
+        trial.device.destroy_layout(other);
+        trial.device.destroy_pool(other);
+        assert!(rt; !trial.device.free_set(other, 4) && !trial.device.free_set(2, 0));
     }
-    device.destroy_layout(2);
-    device.destroy_pool(1);
-    assert!(rt; !device.free_set(3, 4) && !device.free_set(2, 9));
-    expect_held(&rt, &device, [1, 2, 1, 0])?;
-    assert!(rt; device.free_set(2, 4) && !device.free_set(2, 4));
+    trial.device.destroy_layout(2);
+    trial.device.destroy_pool(1);
+    assert!(rt; !trial.device.free_set(3, 4) && !trial.device.free_set(2, 9));
+    trial.expect_held([1, 2, 1, 0])?;
+    assert!(rt; trial.device.free_set(2, 4) && !trial.device.free_set(2, 4));
     for _ in 0..2 {
-        device.destroy_pool(2);
-        device.destroy_layout(1);
+        trial.device.destroy_pool(2);
+        trial.device.destroy_layout(1);
     }
-    expect_held(&rt, &device, [0, 1, 0, 0])?;
-    assert!(rt; !device.is_marked());
+    trial.expect_held([0, 1, 0, 0])?;
+    assert!(rt; !trial.device.is_marked());
     Ok(())
 }

@@ -3,7 +3,7 @@ use crate::helpers::*;
 use conversion::kinds::Kind;
 use counting::counting::CountingDevice;
 use device::meaning::Device;
-use device::records::{AccelerationRecord, BufferRecord, Content, ImageRecord, Write};
+use device::records::{AccelerationRecord, BufferRecord, Content, ImageRecord, Records, Write};
 use std::process::Abort;
 use std::test::*;
 
@@ -13,7 +13,7 @@ fn image_at(device: &CountingDevice, binding: u32) -> Option<(u32, u64, u64, u32
     match descriptor.content {
         Content::Image(image) => {
             Some((
-                descriptor.descriptor_type,
+                u32::from(descriptor.kind),
                 image.sampler,
                 image.view,
                 image.layout,
@@ -28,7 +28,7 @@ fn buffer_at(device: &CountingDevice, binding: u32) -> Option<(u32, u64, u64, u6
     match descriptor.content {
         Content::Buffer(part) => {
             Some((
-                descriptor.descriptor_type,
+                u32::from(descriptor.kind),
                 part.buffer,
                 part.offset,
                 part.range,
@@ -41,14 +41,14 @@ fn buffer_at(device: &CountingDevice, binding: u32) -> Option<(u32, u64, u64, u6
 fn acceleration_at(device: &CountingDevice, binding: u32) -> Option<(u32, u64)> {
     let descriptor = device.read_back(3, binding, 0)?;
     match descriptor.content {
-        Content::Acceleration(structure) => Some((descriptor.descriptor_type, structure.handle)),
+        Content::Acceleration(structure) => Some((u32::from(descriptor.kind), structure.handle)),
         _ => None,
     }
 }
 
 // Layout 1 has a binding of each kind, in key order; that of the sampled image has two elements. Set 3 is in pool 2.
-fn open_with_each_kind(rt: &(impl Abort + AllocGlobal)) -> Result<CountingDevice, Fail> {
-    let mut device = CountingDevice::open(rt.alloc(), 9)?;
+fn open_with_each_kind<R: Abort + AllocGlobal>(rt: &R) -> Result<Trial<'_, R>, Fail> {
+    let mut trial = Trial::open(rt, 9)?;
     let bindings = [
         binding(Kind::Sampler, 1),
         binding(Kind::SampledImage, 2),
@@ -69,10 +69,10 @@ fn open_with_each_kind(rt: &(impl Abort + AllocGlobal)) -> Result<CountingDevice
         size(Kind::StorageBufferDynamic, 1),
         size(Kind::AccelerationStructure, 1),
     ];
-    expect_layout(rt, &mut device, &bindings, 0, Ok(1))?;
-    expect_pool(rt, &mut device, 1, &sizes, 1, Ok(2))?;
-    expect_sets(rt, &mut device, &[(2, 1, Ok(3))])?;
-    Ok(device)
+    trial.expect_layout(&bindings, 0, Ok(1))?;
+    trial.expect_pool(1, &sizes, 1, Ok(2))?;
+    trial.expect_sets(&[(2, 1, Ok(3))])?;
+    Ok(trial)
 }
 
 fn write(binding: u32, descriptor_type: u32, start: usize) -> Write {
@@ -88,7 +88,7 @@ fn write(binding: u32, descriptor_type: u32, start: usize) -> Write {
 
 #[test]
 fn each_kind(rt: HostRuntime) -> Result<(), Fail> {
-    let mut device = open_with_each_kind(&rt)?;
+    let mut trial = open_with_each_kind(&rt)?;
     let images = [
         ImageRecord {
             sampler: 0,
@@ -138,10 +138,17 @@ fn each_kind(rt: HostRuntime) -> Result<(), Fail> {
         write(5, 7, 2),
         write(6, 9, 3),
     ];
-    device.update_sets(&writes, &images, &buffers, &accelerations);
-    assert!(rt; !device.is_marked());
+    trial.device.update_sets(
+        &writes,
+        Records {
+            images: &images,
+            buffers: &buffers,
+            accelerations: &accelerations,
+        },
+    );
+    assert!(rt; !trial.device.is_marked());
     for (binding, due) in [(0, (0, 30, 0, 0)), (1, (2, 0, 31, 5)), (2, (3, 0, 32, 1))] {
-        assert_eq!(rt; image_at(&device, binding), Some(due));
+        assert_eq!(rt; image_at(&trial.device, binding), Some(due));
     }
     for (binding, due) in [
         (3, (6, 40, 1, 50)),
@@ -149,39 +156,40 @@ fn each_kind(rt: HostRuntime) -> Result<(), Fail> {
         (5, (7, 42, 3, 52)),
         (6, (9, 43, 4, u64::MAX)),
     ] {
-        assert_eq!(rt; buffer_at(&device, binding), Some(due));
+        assert_eq!(rt; buffer_at(&trial.device, binding), Some(due));
     }
-    assert_eq!(rt; acceleration_at(&device, 7), Some((1000150000, u64::MAX)));
-    assert!(rt; device.read_back(3, 1, 1).is_none());
-    assert!(rt; device.read_back(3, 8, 0).is_none());
-    assert!(rt; device.read_back(3, 7, 1).is_none());
+    assert_eq!(rt;
+        acceleration_at(&trial.device, 7),
+        Some((1000150000, u64::MAX))
+    );
+    assert!(rt; trial.device.read_back(3, 1, 1).is_none());
+    assert!(rt; trial.device.read_back(3, 8, 0).is_none());
+    assert!(rt; trial.device.read_back(3, 7, 1).is_none());
     Ok(())
 }
 
 // Sets 3 and 4 of layout 1 have three samplers each.
 #[test]
 fn order(rt: HostRuntime) -> Result<(), Fail> {
-    let mut device = open_with(&rt, 6, &[3])?;
-    expect_pool(&rt, &mut device, 2, &[size(Kind::Sampler, 6)], 1, Ok(2))?;
-    expect_sets(&rt, &mut device, &[(2, 1, Ok(3)), (2, 1, Ok(4))])?;
-    let images = [sampler(11), sampler(12), sampler(13), sampler(14)];
+    let mut trial = Trial::with_samplers(&rt, 6, &[3])?;
+    trial.expect_pool(2, &[size(Kind::Sampler, 6)], 1, Ok(2))?;
+    trial.expect_sets(&[(2, 1, Ok(3)), (2, 1, Ok(4))])?;
+    let list = [sampler(11), sampler(12), sampler(13), sampler(14)];
     // of two writes to element 0 the later counts, and element 1 keeps the earlier
     let later = Write {
         start: 3,
         ..samplers_to(3, 1)
     };
-    device.update_sets(&[samplers_to(3, 2), later], &images, &[], &[]);
-    assert!(rt; !device.is_marked());
-    expect_samplers(
-        &rt,
-        &device,
-        &[
-            (3, 0, Some(14)),
-            (3, 1, Some(12)),
-            (3, 2, None),
-            (4, 0, None),
-        ],
-    )?;
+    trial
+        .device
+        .update_sets(&[samplers_to(3, 2), later], images(&list));
+    assert!(rt; !trial.device.is_marked());
+    trial.expect_samplers(&[
+        (3, 0, Some(14)),
+        (3, 1, Some(12)),
+        (3, 2, None),
+        (4, 0, None),
+    ])?;
     // the write in the middle is invalid, its neighbours are not
     let invalid = Write {
         start: 2,
@@ -191,16 +199,14 @@ fn order(rt: HostRuntime) -> Result<(), Fail> {
         start: 2,
         ..samplers_to(3, 1)
     };
-    device.update_sets(&[samplers_to(4, 1), invalid, third], &images, &[], &[]);
-    assert!(rt; device.is_marked());
-    expect_samplers(
-        &rt,
-        &device,
-        &[
-            (4, 0, Some(11)),
-            (3, 0, Some(13)),
-            (3, 1, Some(12)),
-            (3, 2, None),
-        ],
-    )
+    trial
+        .device
+        .update_sets(&[samplers_to(4, 1), invalid, third], images(&list));
+    assert!(rt; trial.device.is_marked());
+    trial.expect_samplers(&[
+        (4, 0, Some(11)),
+        (3, 0, Some(13)),
+        (3, 1, Some(12)),
+        (3, 2, None),
+    ])
 }
