@@ -60,11 +60,11 @@ first_position p d xs =
     let below : (k : ℕ) → k < position_or_len p xs → f k ≡ false = λ k h. not_true (f k) (prefix_len_passes (λ x. not (p x)) xs k d h) in
     elim (leb_tells (suc (position_or_len p xs)) (length xs)) [
       | inl h ↦
-        let e : position p xs ≡ Some (position_or_len p xs) = rw h.0 in
-        let s = position-Some p xs (position_or_len p xs) d e in
-        first_at f (position_or_len p xs) (length xs) s.0 (all_false f (position_or_len p xs) below) s.1 ∙ sym e
+          let e : position p xs ≡ Some (position_or_len p xs) = rw h.0 in
+          let s = position-Some p xs (position_or_len p xs) d e in
+          first_at f (position_or_len p xs) (length xs) s.0 (all_false f (position_or_len p xs) below) s.1 ∙ sym e
       | inr h ↦
-        let e : position p xs ≡ None = rw h.0 in
-        let l = h.1 in
-        all_false f (length xs) (λ k q. below k (omega arith)) ∙ sym e
+          let e : position p xs ≡ None = rw h.0 in
+          let l = h.1 in
+          all_false f (length xs) (λ k q. below k (omega arith)) ∙ sym e
     ]

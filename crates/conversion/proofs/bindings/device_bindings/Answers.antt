@@ -1,27 +1,37 @@
-use Rattle.std.proofs.Common.{◌≡◌, ◌-◌, ◌++◌, map, set, replicate, take, length, ◌∙◌, ap, ap₂, arith, length-set}
-use Rattle.std.proofs.lemmas.List.{length-take-le, take_all}
-use Rattle.conversion.specs.Layouts.{device_binding, no_binding, no_entry}
-use Rattle.conversion.proofs.Rows.{row_more, row_end}
+use Rattle.std.proofs.Common.{◌≡◌, ℕ, ◌≤◌, ◌++◌, [], ◌∷◌, List, min, take, length, sym, ap, ◌∙◌, inl, inr, arith}
+use Rattle.std.proofs.lemmas.List.{map_more, length-take-le, take_all}
+use Rattle.std.proofs.lemmas.Bool.Decides.{leb_tells}
+use Rattle.conversion.specs.Layouts.{device_binding, device_bindings, no_entry}
 use Rattle.conversion.proofs.bindings.device_bindings.Goals as goal
 
-pub loop-i-preserved : goal.loop-i-preserved
-loop-i-preserved c =
+-- a list that is cut at the shorter of its length and n is cut at n
+cut : {X : Type 0} (xs : List X) (n i : ℕ) → i ≡ min (length xs) n → take i xs ≡ take n xs
+cut xs n i e =
+    elim (leb_tells (length xs) n) [
+      | inl h ↦ let l = h.1 in take_all i xs (omega arith) ∙ sym (take_all n xs l)
+      | inr h ↦ let l = h.1 in let q : i ≡ n = omega arith in ap (λ k. take k xs) q
+    ]
+
+pub push-requires : goal.push-requires
+push-requires c =
+    let l : length (take c.min.result c.args.entries.now) ≡ c.min.result = length-take-le c.min.result c.args.entries.now (omega arith) in
+    (omega arith, omega (arith, c.loop-entry.invariant.count))
+
+pub loop-entry-preserved : goal.loop-entry-preserved
+loop-entry-preserved c =
     let listed = take c.min.result c.args.entries.now in
-    let l : length listed ≡ c.min.result = length-take-le c.min.result c.args.entries.now (omega arith) in
     record {
-      filled =
-        ap₂ (λ rows b. set rows c.loop-i.i b) c.loop-i.invariant.filled c.device_binding.ensures
-        ∙ row_more (device_binding c.args.partially_bound) listed no_entry no_binding 32 c.loop-i.i (omega arith) (omega arith);
-      all = simp length-set c.loop-i.invariant.all;
+      told =
+          c.push.ensures.items
+          ∙ (ap (λ xs. xs ++ c.device_binding.result ∷ []) c.loop-entry.invariant.told
+          ∙ (ap (λ b. device_bindings c.args.partially_bound (take c.loop-entry.entry-index listed) ++ b ∷ []) c.device_binding.ensures
+          ∙ sym (map_more (device_binding c.args.partially_bound) listed c.loop-entry.entry-index no_entry c.loop-entry-test.true)));
+      count = omega (arith, c.push.ensures.len, c.loop-entry.invariant.count);
     }
 
 pub returns : goal.returns
 returns c =
     let es = c.args.entries.now in
-    let listed = take c.min.result es in
-    let f = device_binding c.args.partially_bound in
-    let l : length listed ≡ c.min.result = length-take-le c.min.result es (omega arith) in
-    let i : c.loop-i.i ≡ c.min.result = omega arith in
-    c.loop-i.invariant.filled
-    ∙ (ap₂ (λ q k. map f q ++ replicate (32 - k) no_binding) (take_all c.loop-i.i listed (omega arith)) i
-    ∙ row_end f es no_binding 32 c.min.result c.min.ensures)
+    c.loop-entry.invariant.told
+    ∙ ap (device_bindings c.args.partially_bound)
+    (take_all c.loop-entry.entry-index (take c.min.result es) (omega arith) ∙ cut es 32 c.min.result c.min.ensures)
