@@ -1,13 +1,10 @@
--- Kinds by their numbers, and steps of the loops over kinds and stage bits.
-use Rattle.std.proofs.Common.{◌≡◌, ℕ, ◌+◌, ◌*◌, ◌%◌, ◌^◌, ◌<◌, List, length, get_or, drop, Some, refl, add-one, arith}
+-- Kinds by their cases, and steps of the loop over stage bits.
+use Rattle.std.proofs.Common.{◌≡◌, ℕ, ◌+◌, ◌*◌, ◌%◌, ◌^◌, ◌<◌, get_or, add-one, arith}
 use lib.Bits.{bit_and, bit_or}
 use Rattle.std.proofs.lemmas.Nat.{one_shl}
-use Rattle.std.proofs.lemmas.List.{drop_more}
 use Rattle.std.proofs.lemmas.Bool.Decides.{nat_tests}
 use Rattle.conversion.specs.declared.kinds.Kind.{Kind}
 use Rattle.conversion.specs.declared.kinds.Kind.TheVariants.{Sampler, SampledImage, StorageImage, UniformBuffer, UniformBufferDynamic, StorageBuffer, StorageBufferDynamic, AccelerationStructure}
-use Rattle.conversion.specs.Cases.{KindsByNumber}
-use Rattle.conversion.specs.Kinds.{place, kind_at, kind_of_type, type_number}
 use Rattle.conversion.specs.Stages.{stages_below, stage_table}
 
 -- what holds of each of the eight holds of every kind
@@ -20,10 +17,6 @@ by_kind P a b c d e f g h UniformBufferDynamic = e
 by_kind P a b c d e f g h StorageBuffer = f
 by_kind P a b c d e f g h StorageBufferDynamic = g
 by_kind P a b c d e f g h AccelerationStructure = h
-
-pub kinds_by_number : KindsByNumber
-kinds_by_number =
-    by_kind (λ k. (kind_at (place k) ≡ Some k) × (kind_of_type (type_number k) ≡ Some k)) (refl, refl) (refl, refl) (refl, refl) (refl, refl) (refl, refl) (refl, refl) (refl, refl) (refl, refl)
 
 pub stage_set : (s k f : ℕ) → k < 32 → f ≡ stages_below k s → (bit_and s ((1 * 2 ^ k) % 2 ^ 32) ≡ 0 → ⊥) → bit_or f (get_or stage_table k 0) ≡ stages_below (k + 1) s
 stage_set s k f h e t = let p = one_shl k 32 h in let q = rw p at t in rw (add-one k, e) (grind (arith, nat_tests))

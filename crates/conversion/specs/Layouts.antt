@@ -1,5 +1,5 @@
 -- What a list of entries counts, what the device is told of it, and why it makes no layout. Assumes nothing.
-use Rattle.std.specs.Prelude.{◌≡◌, ℕ, suc, ◌+◌, ◌-◌, ◌^◌, ◌<◌, ◌≤◌, Bool, true, false, cond, not, ◌&&◌, List, ◌++◌, map, length, take, replicate, Some, None, Ok, Err, sum_by, Option, Result, MatchResult, ◌==◌, nat_le, nat_lt, slice_index_or}
+use Rattle.std.specs.Prelude.{◌≡◌, ℕ, suc, ◌+◌, ◌-◌, ◌^◌, ◌<◌, ◌≤◌, Bool, true, false, cond, not, ◌&&◌, List, map, length, take, Some, None, Ok, Err, sum_by, Option, Result, MatchResult, ◌==◌, nat_le, nat_lt, slice_index_or}
 use Rattle.std.specs.Option.{option_or, option_map, unwrap_or}
 use Rattle.conversion.specs.Lists.{first, any}
 use Rattle.conversion.specs.Kinds.{place, type_of}

@@ -26,6 +26,7 @@ const POOL_UPDATE_AFTER_BIND: u32 = 2;
 const UNCOUNTED_TYPE: u32 = 1;
 
 // A binding as the device has it, all in Vulkan's numbers.
+// The type stays a number: a device can be asked for one that no kind has, and has to refuse it.
 #[derive(Clone, Copy, Debug, Default, PartialEq, Eq)]
 pub struct DeviceBinding {
     pub descriptor_type: u32,

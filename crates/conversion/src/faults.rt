@@ -35,7 +35,7 @@ pub enum LayoutFault {
     TooManyDescriptors { entry: usize },
 }
 
-// A fault in numbers: the refusal's number, the layer that refuses, and the entry that it names.
+// A fault in numbers, the form for those who have no enum of ours: the refusal's number, the layer that refuses, and the entry that it names.
 #[derive(Clone, Copy, Debug, PartialEq, Eq)]
 pub struct FaultReport {
     pub number: u32,

@@ -41,6 +41,7 @@ impl From<DeviceError> for u32 {
     }
 }
 
+// Results stay numbers, since a device may answer any of 32 bits.
 const ERROR_OUT_OF_HOST_MEMORY: i32 = -1;
 
 const ERROR_OUT_OF_DEVICE_MEMORY: i32 = -2;

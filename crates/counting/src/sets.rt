@@ -28,6 +28,7 @@ impl CountingDevice {
     pub(crate) fn remove_sets_of(&mut self, pool: u64)
         ensures { AllRemoved self.old pool self.new }
     {
+        // by row numbers, since removing a set changes the rows that an iterator would borrow
         for row in 0..SET_ROWS {
             if self.is_in_pool(row, pool) {
                 self.remove_set(row);
@@ -79,6 +80,7 @@ fn fill(
     requires { start < 2 ^ 37 }
     ensures { Filled segments.old row start write.now write.now.count (lists_in records.entry) segments.new }
 {
+    // j counts the elements of the write, and is no index into a list
     for j in 0..write.count as usize {
         put(segments, row, start + j, write.descriptor(j, records));
     }

@@ -8,7 +8,7 @@ use conversion::results::{DeviceCall, DeviceError, map_result};
 use std::error::Error;
 use std::fmt;
 
-// The call that was refused, and its result number.
+// The call that was refused, and its result number, which may be any.
 #[derive(Clone, Copy, Debug, PartialEq, Eq)]
 pub struct DeviceFault {
     pub call: DeviceCall,

@@ -6,7 +6,7 @@ ghost use Rattle.device.specs.Writes.{lists_in, records_of, length_of, content_a
 
 use conversion::kinds::Kind;
 
-// How many descriptors of a type a pool is made with.
+// How many descriptors of a type a pool is made with. The type stays a number, as in a binding: it may be one that no kind has.
 #[derive(Clone, Copy, Debug, PartialEq, Eq)]
 pub struct PoolSize {
     pub descriptor_type: u32,
@@ -48,6 +48,7 @@ pub struct Descriptor {
 }
 
 // Descriptors for one binding of a set. Their records start at `start` in the list of their kind.
+// The type stays a number, as in a binding: it may be one that no kind has.
 #[derive(Clone, Copy, Debug, PartialEq, Eq)]
 pub struct Write {
     pub set: u64,

@@ -37,6 +37,7 @@ fn is_invalid_size(size: &PoolSize, before: &[PoolSize]) -> bool
 pub fn is_invalid_pool(most: u32, sizes: &[PoolSize]) -> bool
     ensures { result ≡ invalid_pool most sizes.now }
 {
+    // a loop, since for `any` over sizes and places no short answer closes the goal
     for (i, size) in sizes.iter().enumerate() {
         if is_invalid_size(size, &sizes[..i]) {
             return true;

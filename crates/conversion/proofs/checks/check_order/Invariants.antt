@@ -1,4 +1,4 @@
-use Rattle.std.proofs.Common.{◌≡◌, ◌-◌, ◌<◌, cond, Some, None, get_or, nat_lt}
+use Rattle.std.proofs.Common.{◌≡◌, ◌-◌, cond, Some, None, get_or, nat_lt}
 use Rattle.conversion.specs.Lists.{first}
 use Rattle.conversion.specs.Layouts.{out_of_order, no_entry}
 use Rattle.conversion.proofs.checks.check_order.Given as goal

@@ -1,11 +1,10 @@
-use Rattle.std.proofs.Common.{◌≡◌, ◌+◌, ◌<◌, ◌≤◌, length, take, sum_by, ap, ◌∙◌, arith}
+use Rattle.std.proofs.Common.{◌≡◌, ◌+◌, ◌<◌, ◌≤◌, take, sum_by, ap, arith}
 use Rattle.std.specs.Option.{option_map}
-use Rattle.std.proofs.lemmas.List.{take_all}
 use Rattle.std.proofs.lemmas.List.Sums.{sum_by_more}
 use Rattle.conversion.specs.Counts.{total}
-use Rattle.conversion.specs.Layouts.{overfull, no_entry, entry_count, counts_of}
+use Rattle.conversion.specs.Layouts.{overfull, no_entry, entry_count}
 use Rattle.conversion.specs.declared.faults.LayoutFault.TheVariants.{TooManyDescriptors}
-use Rattle.conversion.proofs.Searches.{first_next, first_at, first_fewer}
+use Rattle.conversion.proofs.Searches.{first_next, first_at}
 use Rattle.conversion.proofs.Sums.{counts_more, counts_total, over, under}
 use Rattle.conversion.proofs.checks.count_descriptors.Goals as goal
 
@@ -30,9 +29,3 @@ loop-i-preserved c =
       counts_more c.args.entries.now c.loop-i.i no_entry c.loop-i.counts c.add_entry.new.self c.loop-i-test.true c.loop-i.invariant.1 c.add_entry.ensures,
       sum,
     )
-
-pub returns : goal.returns
-returns c = (
-  c.loop-i.invariant.1 ∙ ap counts_of (take_all c.loop-i.i c.args.entries.now c.loop-i-test.false),
-  ap (option_map TooManyDescriptors) (first_fewer (overfull c.args.entries.now) (length c.args.entries.now) c.loop-i.i c.loop-i-test.false c.loop-i.invariant.0),
-)
