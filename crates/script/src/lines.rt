@@ -1,11 +1,11 @@
 // What a line of a script says.
-ghost use Rattle.std.specs.Prelude.{◌≡◌, drop};
+ghost use Rattle.std.specs.Prelude.{◌≡◌, ◌==◌, drop, position};
 ghost use Rattle.std.specs.List.{slice_get};
 ghost use Rattle.script.specs.Words.{words};
 ghost use Rattle.script.specs.Lines.{text_of, number_at, kind_at, stage_bits, stages_from, entry_of, layout_of, line_of};
 
 use crate::names::{kind_named, spells, stage_named};
-use crate::words::{Span, bytes_of, decimal, word_at};
+use crate::words::{Span, Words, bytes_of, decimal, word_at};
 use conversion::entries::LayoutEntry;
 use conversion::kinds::EntryKind;
 
@@ -37,76 +37,60 @@ pub struct Unreadable {
     pub expected: Expected,
 }
 
+impl Unreadable {
+    ghost use Rattle.script.specs.Lines.{unreadable_at};
+
+    fn at(word: usize, expected: Expected) -> Unreadable
+        ensures { result ≡ unreadable_at word expected }
+    {
+        Unreadable { word, expected }
+    }
+}
+
 // What begins a comment.
 const COMMENT: u8 = b'#';
 
+fn comment_start(line: &[u8]) -> Option<usize>
+    ensures { result ≡ position (λ c. c == COMMENT) line.now }
+{
+    line.iter().position(|byte| *byte == COMMENT)
+}
+
 // The text of a line ends where a comment begins.
+#[tactic(auto, using(crate::proofs::Scans::up_to_first))]
 fn text_of(line: &[u8]) -> &[u8]
     ensures { result.now ≡ text_of line.now }
 {
-    for (i, byte) in line.iter().enumerate() {
-        if *byte == COMMENT {
-            return &line[0..i];
-        }
-    }
-    line
+    &line[..comment_start(line).unwrap_or(line.len())]
 }
 
 fn number_at(text: &[u8], index: usize, expected: Expected) -> Result<u32, Unreadable>
     ensures { result ≡ number_at text.now index expected }
 {
-    let Some(span) = word_at(text, index) else {
-        return Err(Unreadable {
-            word: index,
-            expected,
-        });
-    };
-    match decimal(bytes_of(text, span)) {
-        Some(number) => Ok(number),
-        None => Err(Unreadable {
-            word: index,
-            expected,
-        }),
-    }
+    word_at(text, index)
+        .and_then(|span| decimal(bytes_of(text, span)))
+        .ok_or(Unreadable::at(index, expected))
 }
 
 fn kind_at(text: &[u8], index: usize) -> Result<EntryKind, Unreadable>
     ensures { result ≡ kind_at text.now index }
 {
-    let Some(span) = word_at(text, index) else {
-        return Err(Unreadable {
-            word: index,
-            expected: Expected::Kind,
-        });
-    };
-    match kind_named(bytes_of(text, span)) {
-        Some(kind) => Ok(kind),
-        None => Err(Unreadable {
-            word: index,
-            expected: Expected::Kind,
-        }),
-    }
+    word_at(text, index)
+        .and_then(|span| kind_named(bytes_of(text, span)))
+        .ok_or(Unreadable::at(index, Expected::Kind))
 }
 
 // A stage by its name, or stage bits as a number.
 fn stage_bits(word: &[u8]) -> Option<u32>
     ensures { result ≡ stage_bits word.now }
 {
-    match stage_named(word) {
-        Some(bit) => Some(bit),
-        None => decimal(word),
-    }
+    stage_named(word).or_else(|| decimal(word))
 }
 
 fn read_layout(text: &[u8]) -> Result<Line, Unreadable>
     ensures { result ≡ layout_of text.now (slice_get (words text.now) 1) (slice_get (words text.now) 2) (slice_get (words text.now) 3) }
 {
-    let Some(name) = word_at(text, 1) else {
-        return Err(Unreadable {
-            word: 1,
-            expected: Expected::Name,
-        });
-    };
+    let name = word_at(text, 1).ok_or(Unreadable::at(1, Expected::Name))?;
     let Some(span) = word_at(text, 2) else {
         return Ok(Line::Layout {
             name,
@@ -114,21 +98,15 @@ fn read_layout(text: &[u8]) -> Result<Line, Unreadable>
         });
     };
     if !spells(bytes_of(text, span), b"partially-bound") {
-        return Err(Unreadable {
-            word: 2,
-            expected: Expected::PartiallyBound,
-        });
+        return Err(Unreadable::at(2, Expected::PartiallyBound));
     }
-    if word_at(text, 3).is_some() {
-        return Err(Unreadable {
-            word: 3,
-            expected: Expected::LineEnd,
-        });
+    match word_at(text, 3) {
+        Some(_) => Err(Unreadable::at(3, Expected::LineEnd)),
+        None => Ok(Line::Layout {
+            name,
+            partially_bound: true,
+        }),
     }
-    Ok(Line::Layout {
-        name,
-        partially_bound: true,
-    })
 }
 
 // The stages that the words from the fifth on name.
@@ -136,16 +114,8 @@ fn read_stages(text: &[u8]) -> Result<u32, Unreadable>
     ensures { result ≡ stages_from text.now 4 0 (drop 4 (words text.now)) }
 {
     let mut stages = 0;
-    let mut index = 4;
-    while let Some(span) = word_at(text, index) {
-        let Some(bits) = stage_bits(bytes_of(text, span)) else {
-            return Err(Unreadable {
-                word: index,
-                expected: Expected::Stage,
-            });
-        };
-        stages |= bits;
-        index += 1;
+    for (index, span) in Words::of(text).enumerate().skip(4) {
+        stages |= stage_bits(bytes_of(text, span)).ok_or(Unreadable::at(index, Expected::Stage))?;
     }
     Ok(stages)
 }
@@ -178,11 +148,7 @@ pub fn read_line(line: &[u8]) -> Result<Line, Unreadable>
         return read_layout(text);
     }
     if spells(word, b"entry") {
-        let entry = read_entry(text)?;
-        return Ok(Line::Entry(entry));
+        return read_entry(text).map(Line::Entry);
     }
-    Err(Unreadable {
-        word: 0,
-        expected: Expected::Statement,
-    })
+    Err(Unreadable::at(0, Expected::Statement))
 }
