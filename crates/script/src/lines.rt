@@ -8,6 +8,8 @@ use crate::names::{kind_named, spells, stage_named};
 use crate::words::{Span, Words, bytes_of, decimal, word_at};
 use conversion::entries::LayoutEntry;
 use conversion::kinds::EntryKind;
+use std::error::Error;
+use std::fmt;
 
 #[derive(Clone, Copy)]
 pub enum Line {
@@ -18,7 +20,7 @@ pub enum Line {
 }
 
 // What a word should have been.
-#[derive(Clone, Copy)]
+#[derive(Clone, Copy, Debug, PartialEq, Eq)]
 pub enum Expected {
     Statement,
     Name,
@@ -30,8 +32,25 @@ pub enum Expected {
     Stage,
 }
 
+impl fmt::Display for Expected {
+    fn fmt<W: fmt::Write>(&self, f: &mut fmt::Formatter<W>) -> fmt::Result {
+        f.write_str(match self {
+            Expected::Statement => "`layout` or `entry`",
+            Expected::Name => "the layout's name",
+            Expected::PartiallyBound => "`partially-bound` or the end of the line",
+            Expected::LineEnd => "the end of the line",
+            Expected::Binding => "a binding, a number from 0 to 4294967295",
+            Expected::Kind =>
+                "a kind: sampler, sampled-image, storage-image, uniform-buffer, uniform-buffer-dynamic, storage-buffer, storage-buffer-dynamic, acceleration-structure or external-texture",
+            Expected::ArraySize => "an array size, a number from 0 to 4294967295",
+            Expected::Stage =>
+                "a stage: vertex, fragment, compute, task, mesh, ray-generation, miss, any-hit or closest-hit, or stage bits as a number",
+        })
+    }
+}
+
 // The first word that can't be read, counted from 0.
-#[derive(Clone, Copy)]
+#[derive(Clone, Copy, Debug, PartialEq, Eq)]
 pub struct Unreadable {
     pub word: usize,
     pub expected: Expected,
@@ -46,6 +65,16 @@ impl Unreadable {
         Unreadable { word, expected }
     }
 }
+
+// Words are counted from 1 here.
+impl fmt::Display for Unreadable {
+    fn fmt<W: fmt::Write>(&self, f: &mut fmt::Formatter<W>) -> fmt::Result {
+        let word = self.word.saturating_add(1);
+        write!(f, "word {word}: expected {}", self.expected)
+    }
+}
+
+impl Error for Unreadable {}
 
 // What begins a comment.
 const COMMENT: u8 = b'#';
