@@ -146,7 +146,8 @@ fn run<F: FnOnce(&HostRuntime, &[Layout]) -> anyhow::Result<()>>(
     work(rt, &layouts)
 }
 
-// Runs a program on the layouts that standard input has, or prints its usage. An error is printed after the program's name.
+// Runs a program on the layouts that standard input has, or prints its usage.
+// An error is printed after the program's name.
 pub fn run_program<F: FnOnce(&HostRuntime, &[Layout]) -> anyhow::Result<()>>(
     rt: &HostRuntime,
     program: &str,

@@ -1,8 +1,6 @@
 -- Steps of the loops over words and names.
 use Rattle.std.proofs.Common.{◌≡◌, ℕ, zero, suc, ◌+◌, ◌-◌, ◌*◌, ◌<◌, ◌≤◌, Bool, true, false, not, cond, List, [], ◌∷◌, length, get_or, take, drop, nat_lt, is_some, Some, None, Option, unwrap_or, sym, refl, ap, ap₂, ◌∙◌, subst, inl, inr, arith, MatchOption}
 use Rattle.std.specs.List.{All, slice_get, slice_range, prefix_len, position, position_or_len, before_first}
-use Rattle.std.specs.Char.{is_ascii_digit}
-use Rattle.std.specs.Str.{all_ascii_digits}
 use Rattle.std.proofs.lemmas.List.{drop-drop, length-drop, drop_more, at_drop_all, take_all}
 use Rattle.std.proofs.lemmas.Option.{slice_get-get_or, slice_get_past, slice_get_within, get_or_from_slice_get}
 use Rattle.std.proofs.lemmas.List.Elements.{All-cons}
@@ -72,13 +70,7 @@ pub is_word : (t : List ℕ) (n : ℕ) (o : Option Span) → o ≡ slice_get (wo
 is_word t n None e = tt
 is_word t n (Some w) e = subst (Word t) (get_or_from_slice_get (words t) n w w (sym e)) (each_word t n w (slice_get_within (words t) n w (sym e)))
 
--- a digit goes on, and anything else ends
-pub digit_more : (w : List ℕ) (i : ℕ) → i < length w → is_ascii_digit (get_or w i 0) ≡ true → all_ascii_digits (drop i w) ≡ all_ascii_digits (drop (i + 1) w)
-digit_more w i h e = rw (drop_more w i 0 h, e)
-
-pub digit_none : (w : List ℕ) (i : ℕ) → i < length w → is_ascii_digit (get_or w i 0) ≡ false → all_ascii_digits (drop i w) ≡ false
-digit_none w i h e = rw (drop_more w i 0 h, e)
-
+-- a digit more
 pub value_more : (w : List ℕ) (v i : ℕ) → i < length w → value_from v (drop i w) ≡ value_from (v * 10 + (get_or w i 0 - 48)) (drop (i + 1) w)
 value_more w v i h = rw (drop_more w i 0 h)
 
@@ -87,14 +79,8 @@ grows : (w : List ℕ) (v : ℕ) → v ≤ value_from v w
 grows [] v = omega arith
 grows (c ∷ w) v = omega (arith, grows w (v * 10 + (c - 48)))
 
-pub not_digits : (w : List ℕ) → all_ascii_digits w ≡ false → None ≡ decimal_of w
-not_digits w e = rw e (grind (arith, nat_tests))
-
 pub too_large : (w r : List ℕ) (v : ℕ) → 4294967295 < v → value_from 0 w ≡ value_from v r → None ≡ decimal_of w
 too_large w r v h e = let g = grows r v in let l : 4294967295 < value_from 0 w = omega arith in grind (arith, nat_tests)
-
-pub in_full : (w : List ℕ) (v : ℕ) → (length w ≡ 0 → ⊥) → all_ascii_digits w ≡ true → value_from 0 w ≡ v → v ≤ 4294967295 → Some v ≡ decimal_of w
-in_full w v h d e l = rw (d, e) (grind (arith, nat_tests))
 
 -- there are no more words than bytes
 closing_length : (o : Option ℕ) (i n : ℕ) (ws : List Span) → length ws ≤ n → length (closing o i ws) ≤ n + cond (is_some o) 1 0

@@ -1,7 +1,8 @@
 // What a line of a script says.
 ghost use Rattle.std.specs.Prelude.{◌≡◌, ◌==◌, drop, position};
 ghost use Rattle.std.specs.List.{slice_get};
-ghost use Rattle.script.specs.Words.{words};
+ghost use Rattle.std.specs.Option.{option_map};
+ghost use Rattle.script.specs.Words.{words, spelled};
 ghost use Rattle.script.specs.Lines.{text_of, number_at, kind_at, stage_bits, stages_from, entry_of, layout_of, line_of};
 
 use crate::names::{kind_named, spells, stage_named};
@@ -93,19 +94,26 @@ fn text_of(line: &[u8]) -> &[u8]
     &line[..comment_start(line).unwrap_or(line.len())]
 }
 
+// The bytes of word `index`.
+fn bytes_at(text: &[u8], index: usize) -> Option<&[u8]>
+    ensures { option_map (λ w. w.now) result ≡ option_map (spelled text.now) (slice_get (words text.now) index) }
+{
+    word_at(text, index).map(|span| bytes_of(text, span))
+}
+
 fn number_at(text: &[u8], index: usize, expected: Expected) -> Result<u32, Unreadable>
     ensures { result ≡ number_at text.now index expected }
 {
-    word_at(text, index)
-        .and_then(|span| decimal(bytes_of(text, span)))
+    bytes_at(text, index)
+        .and_then(decimal)
         .ok_or(Unreadable::at(index, expected))
 }
 
 fn kind_at(text: &[u8], index: usize) -> Result<EntryKind, Unreadable>
     ensures { result ≡ kind_at text.now index }
 {
-    word_at(text, index)
-        .and_then(|span| kind_named(bytes_of(text, span)))
+    bytes_at(text, index)
+        .and_then(kind_named)
         .ok_or(Unreadable::at(index, Expected::Kind))
 }
 
@@ -120,13 +128,13 @@ fn read_layout(text: &[u8]) -> Result<Line, Unreadable>
     ensures { result ≡ layout_of text.now (slice_get (words text.now) 1) (slice_get (words text.now) 2) (slice_get (words text.now) 3) }
 {
     let name = word_at(text, 1).ok_or(Unreadable::at(1, Expected::Name))?;
-    let Some(span) = word_at(text, 2) else {
+    let Some(mark) = bytes_at(text, 2) else {
         return Ok(Line::Layout {
             name,
             partially_bound: false,
         });
     };
-    if !spells(bytes_of(text, span), b"partially-bound") {
+    if !spells(mark, b"partially-bound") {
         return Err(Unreadable::at(2, Expected::PartiallyBound));
     }
     match word_at(text, 3) {
@@ -169,10 +177,9 @@ pub fn read_line(line: &[u8]) -> Result<Line, Unreadable>
     ensures { result ≡ line_of line.now }
 {
     let text = text_of(line);
-    let Some(span) = word_at(text, 0) else {
+    let Some(word) = bytes_at(text, 0) else {
         return Ok(Line::Blank);
     };
-    let word = bytes_of(text, span);
     if spells(word, b"layout") {
         return read_layout(text);
     }

@@ -30,6 +30,7 @@ pub const STAGE_NAMES: [&str; 9] = [
     "closest-hit",
 ];
 
+// `==` has a slice on both sides, and so takes no byte string.
 pub(crate) fn spells(word: &[u8], name: &[u8]) -> bool
     ensures { result ≡ bytes_eq word.now name.now }
 {

@@ -91,6 +91,7 @@ pub(crate) fn bytes_of(text: &[u8], span: Span) -> &[u8]
 pub fn decimal(word: &[u8]) -> Option<u32>
     ensures { result ≡ decimal_of word.now }
 {
+    // No `str::parse`, which takes a plus sign too.
     let mut value: u64 = 0;
     for byte in word {
         if !byte.is_ascii_digit() {
