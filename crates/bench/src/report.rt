@@ -1,4 +1,4 @@
-// What is printed of a layout.
+// What is printed of a layout. It is of conversion's types, for which no `impl Display` can stand here.
 use conversion::bindings::{DeviceBinding, device_bindings, layout_flags};
 use conversion::checks::check_layout;
 use conversion::counts::BucketKey;

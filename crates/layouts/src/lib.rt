@@ -99,6 +99,7 @@ fn take_line(heap: Global, layouts: &mut Vec<Layout>, line: &str) -> Result<(), 
 fn read_layouts(rt: &HostRuntime) -> anyhow::Result<Vec<Layout>> {
     let heap = rt.alloc();
     let mut layouts: Vec<Layout> = Vec::new(heap);
+    // A flag and no early return, so that each line that can't be read is named.
     let mut readable = true;
     for (index, line) in BufReader::new(heap, rt.stdin())?.lines(heap).enumerate() {
         let number = index.saturating_add(1);

@@ -41,7 +41,7 @@ fn print_answer(rt: &impl Print, answer: Result<u64, DeviceFault>) -> io::Result
     Ok(answer.ok())
 }
 
-// A wrapper with an `impl Display` would be no shorter: it would only print what stands here.
+// A function, as an `impl Display` of the device's own type can't stand here.
 fn print_descriptor(rt: &impl Print, descriptor: &Descriptor) -> io::Result<()> {
     let name = kind_name(descriptor.descriptor_type);
     match descriptor.content {

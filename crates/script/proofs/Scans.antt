@@ -1,8 +1,8 @@
--- Steps of the loops over words and names.
+-- Texts, their words and the numbers that they write, step by step.
 use Rattle.std.proofs.Common.{◌≡◌, ℕ, zero, suc, ◌+◌, ◌-◌, ◌*◌, ◌<◌, ◌≤◌, Bool, true, false, not, cond, List, [], ◌∷◌, length, get_or, take, drop, nat_lt, is_some, Some, None, Option, unwrap_or, sym, refl, ap, ap₂, ◌∙◌, subst, inl, inr, arith, MatchOption}
 use Rattle.std.specs.List.{All, slice_get, slice_range, prefix_len, position, position_or_len, before_first}
 use Rattle.std.proofs.lemmas.List.{drop-drop, length-drop, drop_more, at_drop_all, take_all}
-use Rattle.std.proofs.lemmas.Option.{slice_get-get_or, slice_get_past, slice_get_within, get_or_from_slice_get}
+use Rattle.std.proofs.lemmas.Option.{slice_get_within, get_or_from_slice_get}
 use Rattle.std.proofs.lemmas.List.Elements.{All-cons}
 use Rattle.std.specs.Option.{IfSome}
 use Rattle.std.proofs.lemmas.Bool.Decides.{nat_tests, leb_tells}
@@ -99,19 +99,9 @@ pub few_words : (t : List ℕ) → length (words t) ≤ length t
 few_words t = omega (arith, more_words t None 0)
 
 -- what is found at a place of a list
-pub nth_inside : {X : Type 0} (xs : List X) (i : ℕ) (x : X) → Some x ≡ slice_get xs i → i < length xs
-nth_inside xs i x e =
-    elim (leb_tells (length xs) i) [
-      | inl h ↦ let n = slice_get_past xs i h.1 in let z : ◌≡◌ {A = ℕ} 0 1 = cc in absurd (omega arith)
-      | inr h ↦ h.1
-    ]
-
 pub nth_more : {X : Type 0} (xs : List X) (i : ℕ) (x : X) → Some x ≡ slice_get xs i → drop i xs ≡ x ∷ drop (i + 1) xs
 nth_more xs i x e =
-    let h = nth_inside xs i x e in
-    let g = slice_get-get_or xs i x h in
-    let s : x ≡ get_or xs i x = cc in
-    drop_more xs i x h ∙ ap (λ y. y ∷ drop (i + 1) xs) (sym s)
+    drop_more xs i x (slice_get_within xs i x (sym e)) ∙ ap (λ y. y ∷ drop (i + 1) xs) (get_or_from_slice_get xs i x x (sym e))
 
 -- a list up to the first that passes a test, or to its end
 up_to_by : {X : Type 0} (xs : List X) (k : ℕ) → (b : Bool) → (b ≡ nat_lt k (length xs)) → take (unwrap_or (cond b (Some k) None) (length xs)) xs ≡ take k xs

@@ -101,6 +101,7 @@ fn bytes_at(text: &[u8], index: usize) -> Option<&[u8]>
     word_at(text, index).map(|span| bytes_of(text, span))
 }
 
+// Beside `kind_at`, since a generic function over what reads the word would be longer than both.
 fn number_at(text: &[u8], index: usize, expected: Expected) -> Result<u32, Unreadable>
     ensures { result ≡ number_at text.now index expected }
 {
