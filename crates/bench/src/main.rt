@@ -3,11 +3,10 @@
 
 mod report;
 
-use crate::report::print_layout;
-use anyhow::anyhow;
-use layouts::read_layouts;
+use crate::report::print_layouts;
+use layouts::run_program;
+use std::io;
 use std::process::ExitCode;
-use std::{env, io};
 
 const USAGE: &str = "usage: bench < SCRIPT
 
@@ -24,29 +23,11 @@ KIND   sampler, sampled-image, storage-image, uniform-buffer,
 STAGE  vertex, fragment, compute, task, mesh, ray-generation, miss, any-hit,
        closest-hit, or stage bits as a decimal number";
 
-fn run(rt: &HostRuntime) -> anyhow::Result<()> {
-    if let Some(argument) = env::args(rt)?.nth(1) {
-        if argument.as_str() != "--help" {
-            return Err(anyhow!(
-                "no argument but --help is taken; the script is read from standard input"
-            ));
-        }
-        rt.println(USAGE)?;
-        return Ok(());
-    }
-    let layouts = read_layouts(rt)?;
-    for layout in layouts.iter() {
-        print_layout(rt, layout)?;
-    }
-    Ok(())
-}
-
 fn main(rt: HostRuntime) -> io::Result<ExitCode> {
-    match run(&rt) {
-        Ok(()) => Ok(ExitCode::SUCCESS),
-        Err(error) => {
-            eprintln!(rt; "bench: {error}")?;
-            Ok(ExitCode::FAILURE)
-        }
-    }
+    run_program(
+        &rt,
+        "bench",
+        USAGE,
+        |rt, layouts| Ok(print_layouts(rt, layouts)?),
+    )
 }

@@ -1,10 +1,10 @@
-// What is printed of a layout.
+// What is printed of a layout. It is of conversion's types, for which no `impl Display` can stand here.
 use conversion::bindings::{DeviceBinding, device_bindings, layout_flags};
 use conversion::checks::check_layout;
 use conversion::counts::BucketKey;
 use conversion::entries::LayoutEntry;
 use conversion::faults::LayoutFault;
-use conversion::kinds::Kind;
+use conversion::kinds::KINDS;
 use layouts::Layout;
 use script::names::KIND_NAMES;
 use std::io;
@@ -20,11 +20,13 @@ fn reason(fault: LayoutFault) -> &'static str {
 
 fn print_refusal(rt: &impl Print, fault: LayoutFault) -> io::Result<()> {
     let report = fault.report();
-    let number = report.number;
-    let layer = report.layer.number();
-    let entry = report.entry;
-    let why = reason(fault);
-    println!(rt; "  refusal {number}, layer {layer}, entry {entry}: {why}")
+    println!(rt;
+        "  refusal {}, layer {}, entry {}: {}",
+        report.number,
+        report.layer.number(),
+        report.entry,
+        reason(fault)
+    )
 }
 
 fn print_binding(
@@ -33,35 +35,25 @@ fn print_binding(
     entry: &LayoutEntry,
     binding: &DeviceBinding,
 ) -> io::Result<()> {
-    let named = entry.binding;
-    let number = binding.descriptor_type;
-    let count = binding.count;
-    let stages = binding.stages;
-    let flags = binding.flags;
     println!(rt;
-        "  binding {index} (entry binding {named}): type {number}, count {count}, stages {stages:#x}, flags {flags:#x}"
+        "  binding {index} (entry binding {}): type {}, count {}, stages {:#x}, flags {:#x}",
+        entry.binding, binding.descriptor_type, binding.count, binding.stages, binding.flags
     )
 }
 
 fn print_counts(rt: &impl Print, key: &BucketKey) -> io::Result<()> {
     print!(rt; "  counts:")?;
-    for (place, name) in KIND_NAMES.iter().enumerate() {
-        if let Some(kind) = Kind::at_place(place) {
-            let count = key.counts.of_kind(kind);
-            let comma = if place == 0 { "" } else { "," };
-            print!(rt; "{comma} {name} {count}")?;
-        }
+    for (i, (kind, name)) in KINDS.iter().zip(KIND_NAMES.iter()).enumerate() {
+        let comma = if i == 0 { "" } else { "," };
+        print!(rt; "{comma} {name} {}", key.counts.of_kind(*kind))?;
     }
     println!(rt; "")
 }
 
 fn print_key(rt: &impl Print, key: &BucketKey) -> io::Result<()> {
     print!(rt; "  key:")?;
-    for place in 0..KIND_NAMES.len() {
-        if let Some(kind) = Kind::at_place(place) {
-            let count = key.counts.of_kind(kind);
-            print!(rt; " {count}")?;
-        }
+    for kind in KINDS {
+        print!(rt; " {}", key.counts.of_kind(kind))?;
     }
     let arrays = if key.arrays {
         "with an array"
@@ -76,27 +68,31 @@ fn print_accepted(rt: &impl Print, layout: &Layout, key: &BucketKey) -> io::Resu
     for (index, (entry, binding)) in layout.entries.iter().zip(bindings.iter()).enumerate() {
         print_binding(rt, index, entry, binding)?;
     }
-    let flags = layout_flags(key);
-    let total = key.counts.total();
-    println!(rt; "  layout flags: {flags:#x}")?;
+    println!(rt; "  layout flags: {:#x}", layout_flags(key))?;
     print_counts(rt, key)?;
-    println!(rt; "  total: {total}")?;
+    println!(rt; "  total: {}", key.counts.total())?;
     print_key(rt, key)
 }
 
 // What the device would be asked for, or the refusal.
-pub(crate) fn print_layout(rt: &impl Print, layout: &Layout) -> io::Result<()> {
-    let name = layout.name.as_str();
+fn print_layout(rt: &impl Print, layout: &Layout) -> io::Result<()> {
     let count = layout.entries.len();
+    let entries = if count == 1 { "entry" } else { "entries" };
     let partially = if layout.partially_bound {
         ", partially bound"
     } else {
         ""
     };
-    let entries = if count == 1 { "entry" } else { "entries" };
-    println!(rt; "layout {name}: {count} {entries}{partially}")?;
+    println!(rt; "layout {}: {count} {entries}{partially}", layout.name)?;
     match check_layout(&layout.entries) {
         Ok(key) => print_accepted(rt, layout, &key),
         Err(fault) => print_refusal(rt, fault),
     }
+}
+
+pub(crate) fn print_layouts(rt: &impl Print, layouts: &[Layout]) -> io::Result<()> {
+    for layout in layouts {
+        print_layout(rt, layout)?;
+    }
+    Ok(())
 }

@@ -1,13 +1,18 @@
 // Layouts from standard input.
 #![tactic(auto)]
 
+ghost use Rattle.std.specs.Prelude.{◌≡◌};
+ghost use Rattle.layouts.specs.declared.LineError.TheVariants.{Word, NoMemory};
+
 use anyhow::anyhow;
 use conversion::entries::LayoutEntry;
-use script::lines::{Expected, Line, Unreadable, read_line};
+use script::lines::{Line, Unreadable, read_line};
 use script::words::Span;
-use std::alloc::{AllocError, Global};
-use std::io;
+use std::alloc::{AllocError, AllocFailed, Global};
+use std::error::Error;
 use std::io::{BufRead, BufReader};
+use std::process::ExitCode;
+use std::{env, fmt, io};
 
 #[derive(Drop)]
 pub struct Layout {
@@ -16,88 +21,88 @@ pub struct Layout {
     pub entries: Vec<LayoutEntry>,
 }
 
-fn expectation(expected: Expected) -> &'static str {
-    match expected {
-        Expected::Statement => "`layout` or `entry`",
-        Expected::Name => "the layout's name",
-        Expected::PartiallyBound => "`partially-bound` or the end of the line",
-        Expected::LineEnd => "the end of the line",
-        Expected::Binding => "a binding, a number from 0 to 4294967295",
-        Expected::Kind =>
-            "a kind: sampler, sampled-image, storage-image, uniform-buffer, uniform-buffer-dynamic, storage-buffer, storage-buffer-dynamic, acceleration-structure or external-texture",
-        Expected::ArraySize => "an array size, a number from 0 to 4294967295",
-        Expected::Stage =>
-            "a stage: vertex, fragment, compute, task, mesh, ray-generation, miss, any-hit or closest-hit, or stage bits as a number",
+// Why a line can't be taken.
+#[derive(Clone, Copy, Debug)]
+enum LineError {
+    Word(Unreadable),
+    // An entry stands before the first layout.
+    NoLayout,
+    NoMemory(AllocError),
+}
+
+impl fmt::Display for LineError {
+    fn fmt<W: fmt::Write>(&self, f: &mut fmt::Formatter<W>) -> fmt::Result {
+        match self {
+            LineError::Word(unreadable) => write!(f, "{unreadable}"),
+            LineError::NoLayout => write!(f, "expected `layout` before the first `entry`"),
+            LineError::NoMemory(error) => write!(f, "{error}"),
+        }
     }
 }
 
-// Why a line can't be taken.
-#[derive(Drop)]
-enum Complaint {
-    Word(Unreadable),
-    NoLayout,
+impl Error for LineError {}
+
+impl From<Unreadable> for LineError {
+    ghost from_gives = { λ u e. e ≡ Word u };
+
+    fn from(unreadable: Unreadable) -> LineError {
+        LineError::Word(unreadable)
+    }
 }
 
-fn name_of(heap: Global, line: &String, name: Span) -> Result<String, AllocError> {
+impl From<AllocError> for LineError {
+    ghost from_gives = { λ a e. e ≡ NoMemory a };
+
+    fn from(error: AllocError) -> LineError {
+        LineError::NoMemory(error)
+    }
+}
+
+impl<T: Drop> From<AllocFailed<T>> for LineError {
+    ghost from_gives = { λ _ e. (a : _) × (e ≡ NoMemory a) };
+
+    fn from(error: AllocFailed<T>) -> LineError {
+        LineError::NoMemory(AllocError::from(error))
+    }
+}
+
+fn name_of(heap: Global, line: &str, name: Span) -> Result<String, AllocError> {
     let Span { start, end } = name;
-    let text = line.as_str().get(start..end).unwrap_or("?");
+    let text = line.get(start..end).unwrap_or("?");
     String::from_str(heap, text)
 }
 
 // Takes one line up into the layouts.
-fn take_line(
-    heap: Global,
-    layouts: &mut Vec<Layout>,
-    line: &String,
-) -> Result<Option<Complaint>, AllocError> {
-    match read_line(line.as_bytes()) {
-        Ok(Line::Blank) => Ok(None),
-        Ok(
-            Line::Layout {
-                name,
-                partially_bound,
-            },
-        ) => {
+fn take_line(heap: Global, layouts: &mut Vec<Layout>, line: &str) -> Result<(), LineError> {
+    match read_line(line.as_bytes())? {
+        Line::Blank => {}
+        Line::Layout {
+            name,
+            partially_bound,
+        } => {
             let name = name_of(heap, line, name)?;
             layouts.push(Layout {
                 name,
                 partially_bound,
                 entries: Vec::new(heap),
             })?;
-            Ok(None)
         }
-        Ok(Line::Entry(entry)) => match layouts.last_mut() {
-            Some(layout) => {
-                layout.entries.push(entry)?;
-                Ok(None)
-            }
-            None => Ok(Some(Complaint::NoLayout)),
-        },
-        Err(unreadable) => Ok(Some(Complaint::Word(unreadable))),
-    }
-}
-
-fn complain(rt: &impl Eprint, number: u64, complaint: Complaint) -> io::Result<()> {
-    match complaint {
-        Complaint::NoLayout => eprintln!(rt;
-            "line {number}: expected `layout` before the first `entry`"
-        ),
-        Complaint::Word(unreadable) => {
-            let word = unreadable.word.saturating_add(1);
-            let expected = expectation(unreadable.expected);
-            eprintln!(rt; "line {number}, word {word}: expected {expected}")
+        Line::Entry(entry) => {
+            let layout = layouts.last_mut().ok_or(LineError::NoLayout)?;
+            layout.entries.push(entry)?;
         }
     }
+    Ok(())
 }
 
 // All layouts, or an error once each line that can't be read was named.
-pub fn read_layouts(rt: &HostRuntime) -> anyhow::Result<Vec<Layout>> {
+fn read_layouts(rt: &HostRuntime) -> anyhow::Result<Vec<Layout>> {
     let heap = rt.alloc();
     let mut layouts: Vec<Layout> = Vec::new(heap);
-    let mut number: u64 = 0;
+    // A flag and no early return, so that each line that can't be read is named.
     let mut readable = true;
-    for line in BufReader::new(heap, rt.stdin())?.lines(heap) {
-        number = number.saturating_add(1);
+    for (index, line) in BufReader::new(heap, rt.stdin())?.lines(heap).enumerate() {
+        let number = index.saturating_add(1);
         let line = match line {
             Ok(line) => line,
             Err(error) => {
@@ -107,8 +112,12 @@ pub fn read_layouts(rt: &HostRuntime) -> anyhow::Result<Vec<Layout>> {
                 ));
             }
         };
-        if let Some(complaint) = take_line(heap, &mut layouts, &line)? {
-            complain(rt, number, complaint)?;
+        if let Err(error) = take_line(heap, &mut layouts, line.as_str()) {
+            match error {
+                LineError::Word(unreadable) => eprintln!(rt; "line {number}, {unreadable}")?,
+                LineError::NoLayout => eprintln!(rt; "line {number}: {error}")?,
+                LineError::NoMemory(_) => return Err(error.into()),
+            }
             readable = false;
         }
     }
@@ -116,4 +125,43 @@ pub fn read_layouts(rt: &HostRuntime) -> anyhow::Result<Vec<Layout>> {
         return Err(anyhow!("some lines can't be read, so nothing was converted"));
     }
     Ok(layouts)
+}
+
+fn run<F: FnOnce(&HostRuntime, &[Layout]) -> anyhow::Result<()>>(
+    rt: &HostRuntime,
+    usage: &str,
+    work: F,
+) -> anyhow::Result<()>
+    requires { F.IsAlwaysCallable work }
+{
+    if let Some(argument) = env::args(rt)?.nth(1) {
+        if argument.as_str() != "--help" {
+            return Err(anyhow!(
+                "no argument but --help is taken; the script is read from standard input"
+            ));
+        }
+        rt.println(usage)?;
+        return Ok(());
+    }
+    let layouts = read_layouts(rt)?;
+    work(rt, &layouts)
+}
+
+// Runs a program on the layouts that standard input has, or prints its usage.
+// An error is printed after the program's name.
+pub fn run_program<F: FnOnce(&HostRuntime, &[Layout]) -> anyhow::Result<()>>(
+    rt: &HostRuntime,
+    program: &str,
+    usage: &str,
+    work: F,
+) -> io::Result<ExitCode>
+    requires { F.IsAlwaysCallable work }
+{
+    match run(rt, usage, work) {
+        Ok(()) => Ok(ExitCode::SUCCESS),
+        Err(error) => {
+            eprintln!(rt; "{program}: {error}")?;
+            Ok(ExitCode::FAILURE)
+        }
+    }
 }

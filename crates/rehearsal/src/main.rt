@@ -5,10 +5,9 @@ mod on_device;
 mod sample;
 
 use crate::on_device::run_layouts;
-use anyhow::anyhow;
-use layouts::read_layouts;
+use layouts::run_program;
+use std::io;
 use std::process::ExitCode;
-use std::{env, io};
 
 const USAGE: &str = "usage: rehearsal < SCRIPT
 
@@ -26,26 +25,6 @@ KIND   sampler, sampled-image, storage-image, uniform-buffer,
 STAGE  vertex, fragment, compute, task, mesh, ray-generation, miss, any-hit,
        closest-hit, or stage bits as a decimal number";
 
-fn run(rt: &HostRuntime) -> anyhow::Result<()> {
-    if let Some(argument) = env::args(rt)?.nth(1) {
-        if argument.as_str() != "--help" {
-            return Err(anyhow!(
-                "no argument but --help is taken; the script is read from standard input"
-            ));
-        }
-        rt.println(USAGE)?;
-        return Ok(());
-    }
-    let layouts = read_layouts(rt)?;
-    run_layouts(rt, &layouts)
-}
-
 fn main(rt: HostRuntime) -> io::Result<ExitCode> {
-    match run(&rt) {
-        Ok(()) => Ok(ExitCode::SUCCESS),
-        Err(error) => {
-            eprintln!(rt; "rehearsal: {error}")?;
-            Ok(ExitCode::FAILURE)
-        }
-    }
+    run_program(&rt, "rehearsal", USAGE, run_layouts)
 }

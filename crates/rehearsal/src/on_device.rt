@@ -18,77 +18,55 @@ use std::io;
 const ROOM: usize = 1024;
 
 fn kind_name(descriptor_type: u32) -> &'static str {
-    match Kind::of_type(descriptor_type) {
-        Some(kind) => KIND_NAMES[kind.place()],
-        None => "unknown",
-    }
+    Kind::of_type(descriptor_type).map_or("unknown", |kind| KIND_NAMES[kind.place()])
 }
 
 // Prints what a making call answered, and hands on the handle if it made something.
 fn print_answer(rt: &impl Print, answer: Result<u64, DeviceFault>) -> io::Result<Option<u64>> {
     match answer {
-        Ok(handle) => {
-            println!(rt; "handle {handle}")?;
-            Ok(Some(handle))
-        }
+        Ok(handle) => println!(rt; "handle {handle}")?,
         Err(fault) => {
-            let call = fault.call.number();
-            let result = fault.result;
-            let number = fault.report().number;
             let meant = match fault.error() {
                 DeviceError::OutOfMemory => "a memory fault",
                 DeviceError::Unexpected => "another fault",
             };
-            println!(rt; "refused, call {call}, result {result} (refusal {number}, {meant})")?;
-            Ok(None)
+            println!(rt;
+                "refused, call {}, result {} (refusal {}, {meant})",
+                fault.call.number(),
+                fault.result,
+                fault.report().number
+            )?;
         }
     }
+    Ok(answer.ok())
 }
 
+// A function, as an `impl Display` of the device's own type can't stand here.
 fn print_descriptor(rt: &impl Print, descriptor: &Descriptor) -> io::Result<()> {
     let name = kind_name(descriptor.descriptor_type);
     match descriptor.content {
-        Content::Image(image) => {
-            let sampler = image.sampler;
-            let view = image.view;
-            let layout = image.layout;
-            println!(rt; "{name}, sampler {sampler}, view {view}, image layout {layout}")
-        }
-        Content::Buffer(part) => {
-            let buffer = part.buffer;
-            let offset = part.offset;
-            let range = part.range;
-            println!(rt; "{name}, buffer {buffer}, offset {offset}, range {range}")
-        }
-        Content::Acceleration(structure) => {
-            let handle = structure.handle;
-            println!(rt; "{name}, structure {handle}")
-        }
+        Content::Image(image) => println!(rt;
+            "{name}, sampler {}, view {}, image layout {}",
+            image.sampler, image.view, image.layout
+        ),
+        Content::Buffer(part) => println!(rt;
+            "{name}, buffer {}, offset {}, range {}",
+            part.buffer, part.offset, part.range
+        ),
+        Content::Acceleration(structure) => println!(rt; "{name}, structure {}", structure.handle),
     }
-}
-
-fn print_tally(rt: &impl Print, device: &CountingDevice) -> io::Result<()> {
-    let tally = device.tally();
-    let layouts = tally.layouts;
-    let pools = tally.pools;
-    let sets = tally.sets;
-    let descriptors = tally.descriptors;
-    println!(rt; "  held: layouts {layouts}, pools {pools}, sets {sets}, descriptors {descriptors}")
 }
 
 // What a pool for one set with that key is made with.
 fn pool_sizes(heap: Global, key: &BucketKey) -> Result<Vec<PoolSize>, AllocError> {
-    let mut sizes = Vec::new(heap);
-    for kind in KINDS {
-        let count = key.counts.of_kind(kind);
-        if count > 0 {
-            sizes.push(PoolSize {
-                descriptor_type: kind.type_number(),
-                count,
-            })?;
-        }
-    }
-    Ok(sizes)
+    KINDS
+        .iter()
+        .map(|kind| PoolSize {
+            descriptor_type: kind.type_number(),
+            count: key.counts.of_kind(*kind),
+        })
+        .filter(|size| size.count > 0)
+        .collect(heap)
 }
 
 fn print_sizes(rt: &impl Print, sizes: &[PoolSize]) -> io::Result<()> {
@@ -97,104 +75,111 @@ fn print_sizes(rt: &impl Print, sizes: &[PoolSize]) -> io::Result<()> {
     }
     for (i, size) in sizes.iter().enumerate() {
         let comma = if i == 0 { "" } else { ", " };
-        let name = kind_name(size.descriptor_type);
-        let count = size.count;
-        print!(rt; "{comma}{name} {count}")?;
+        print!(rt; "{comma}{} {}", kind_name(size.descriptor_type), size.count)?;
     }
     Ok(())
 }
 
-// Writes a sample to each binding of a set in one call, and reads all back.
-fn fill_set(
-    rt: &HostRuntime,
-    device: &mut CountingDevice,
-    set: u64,
-    bindings: &[DeviceBinding],
-) -> anyhow::Result<()> {
-    let sample = Sample::for_set(rt.alloc(), set, bindings)?;
-    device.update_sets(
-        &sample.writes,
-        &sample.images,
-        &sample.buffers,
-        &sample.accelerations,
-    );
-    let count = sample.writes.len();
-    println!(rt; "  write to set {set}, bindings {count}, element 0 of each: no answer")?;
-    for write in sample.writes.iter() {
-        let binding = write.binding;
-        let element = write.element;
-        print!(rt; "  read binding {binding}, element {element}: ")?;
-        match device.read_back(set, binding, element) {
-            Some(descriptor) => print_descriptor(rt, &descriptor)?,
-            None => rt.println("nothing")?,
+#[derive(Drop)]
+struct Rehearsal<'a> {
+    rt: &'a HostRuntime,
+    device: CountingDevice,
+}
+
+impl<'a> Rehearsal<'a> {
+    fn print_tally(&self) -> io::Result<()> {
+        let tally = self.device.tally();
+        println!(self.rt;
+            "  held: layouts {}, pools {}, sets {}, descriptors {}",
+            tally.layouts, tally.pools, tally.sets, tally.descriptors
+        )
+    }
+
+    // Writes a sample to each binding of a set in one call, and reads all back.
+    fn fill_set(&mut self, set: u64, bindings: &[DeviceBinding]) -> anyhow::Result<()> {
+        let rt = self.rt;
+        let sample = Sample::for_set(rt.alloc(), set, bindings)?;
+        self.device.update_sets(
+            &sample.writes,
+            &sample.images,
+            &sample.buffers,
+            &sample.accelerations,
+        );
+        println!(rt;
+            "  write to set {set}, bindings {}, element 0 of each: no answer",
+            sample.writes.len()
+        )?;
+        for write in sample.writes.iter() {
+            let binding = write.binding;
+            let element = write.element;
+            print!(rt; "  read binding {binding}, element {element}: ")?;
+            match self.device.read_back(set, binding, element) {
+                Some(descriptor) => print_descriptor(rt, &descriptor)?,
+                None => rt.println("nothing")?,
+            }
         }
+        self.print_tally()?;
+        Ok(())
     }
-    print_tally(rt, device)?;
-    Ok(())
-}
 
-// Makes a set, fills it and frees it.
-fn try_set(
-    rt: &HostRuntime,
-    device: &mut CountingDevice,
-    pool: u64,
-    layout: u64,
-    bindings: &[DeviceBinding],
-) -> anyhow::Result<()> {
-    print!(rt; "  make set in pool {pool} with layout {layout}: ")?;
-    if let Some(set) = print_answer(rt, device.allocate_set(pool, layout))? {
-        fill_set(rt, device, set, bindings)?;
-        let freed = if device.free_set(pool, set) {
-            "yes"
-        } else {
-            "no"
-        };
-        println!(rt; "  free set {set} of pool {pool}: {freed}")?;
+    // Makes a set, fills it and frees it.
+    fn try_set(
+        &mut self,
+        pool: u64,
+        layout: u64,
+        bindings: &[DeviceBinding],
+    ) -> anyhow::Result<()> {
+        let rt = self.rt;
+        print!(rt; "  make set in pool {pool} with layout {layout}: ")?;
+        if let Some(set) = print_answer(rt, self.device.allocate_set(pool, layout))? {
+            self.fill_set(set, bindings)?;
+            let freed = if self.device.free_set(pool, set) {
+                "yes"
+            } else {
+                "no"
+            };
+            println!(rt; "  free set {set} of pool {pool}: {freed}")?;
+        }
+        Ok(())
     }
-    Ok(())
-}
 
-// Makes a pool for one set, tries a set in it, and destroys it.
-fn try_pool(
-    rt: &HostRuntime,
-    device: &mut CountingDevice,
-    layout: u64,
-    bindings: &[DeviceBinding],
-    key: &BucketKey,
-) -> anyhow::Result<()> {
-    let sizes = pool_sizes(rt.alloc(), key)?;
-    let flags = pool_flags(key);
-    print!(rt; "  make pool of 1 set (")?;
-    print_sizes(rt, &sizes)?;
-    print!(rt; "), flags {flags:#x}: ")?;
-    if let Some(pool) = print_answer(rt, device.create_pool(1, &sizes, flags))? {
-        try_set(rt, device, pool, layout, bindings)?;
-        device.destroy_pool(pool);
-        println!(rt; "  destroy pool {pool}: no answer")?;
+    // Makes a pool for one set, tries a set in it, and destroys it.
+    fn try_pool(
+        &mut self,
+        layout: u64,
+        bindings: &[DeviceBinding],
+        key: &BucketKey,
+    ) -> anyhow::Result<()> {
+        let rt = self.rt;
+        let sizes = pool_sizes(rt.alloc(), key)?;
+        let flags = pool_flags(key);
+        print!(rt; "  make pool of 1 set (")?;
+        print_sizes(rt, &sizes)?;
+        print!(rt; "), flags {flags:#x}: ")?;
+        if let Some(pool) = print_answer(rt, self.device.create_pool(1, &sizes, flags))? {
+            self.try_set(pool, layout, bindings)?;
+            self.device.destroy_pool(pool);
+            println!(rt; "  destroy pool {pool}: no answer")?;
+        }
+        Ok(())
     }
-    Ok(())
-}
 
-// Makes a layout, tries a pool for it, and destroys it.
-fn try_layout(
-    rt: &HostRuntime,
-    device: &mut CountingDevice,
-    layout: &Layout,
-    key: &BucketKey,
-) -> anyhow::Result<()> {
-    let name = layout.name.as_str();
-    let count = layout.entries.len();
-    let rows = device_bindings(&layout.entries, layout.partially_bound);
-    let bindings: Vec<DeviceBinding> = rows.iter().take(count).copied().collect(rt.alloc())?;
-    let flags = layout_flags(key);
-    println!(rt; "on the counting device, layout {name}")?;
-    print!(rt; "  make layout of bindings {count}, flags {flags:#x}: ")?;
-    if let Some(handle) = print_answer(rt, device.create_layout(&bindings, flags))? {
-        try_pool(rt, device, handle, &bindings, key)?;
-        device.destroy_layout(handle);
-        println!(rt; "  destroy layout {handle}: no answer")?;
+    // Makes a layout, tries a pool for it, and destroys it.
+    fn try_layout(&mut self, layout: &Layout, key: &BucketKey) -> anyhow::Result<()> {
+        let rt = self.rt;
+        let count = layout.entries.len();
+        let rows = device_bindings(&layout.entries, layout.partially_bound);
+        let bindings: Vec<DeviceBinding> = rows.iter().take(count).copied().collect(rt.alloc())?;
+        let flags = layout_flags(key);
+        println!(rt; "on the counting device, layout {}", layout.name)?;
+        print!(rt; "  make layout of bindings {count}, flags {flags:#x}: ")?;
+        if let Some(handle) = print_answer(rt, self.device.create_layout(&bindings, flags))? {
+            self.try_pool(handle, &bindings, key)?;
+            self.device.destroy_layout(handle);
+            println!(rt; "  destroy layout {handle}: no answer")?;
+        }
+        Ok(())
     }
-    Ok(())
 }
 
 // All accepted layouts in order, on one device. Without a layout there is nothing to run.
@@ -202,15 +187,20 @@ pub(crate) fn run_layouts(rt: &HostRuntime, layouts: &[Layout]) -> anyhow::Resul
     if layouts.is_empty() {
         return Ok(());
     }
-    let mut device = CountingDevice::open(rt.alloc(), ROOM)?;
+    let device = CountingDevice::open(rt.alloc(), ROOM)?;
+    let mut rehearsal = Rehearsal { rt, device };
     for layout in layouts {
         if let Ok(key) = check_layout(&layout.entries) {
-            try_layout(rt, &mut device, layout, &key)?;
+            rehearsal.try_layout(layout, &key)?;
         }
     }
     println!(rt; "on the counting device, at the end")?;
-    print_tally(rt, &device)?;
-    let mark = if device.is_marked() { "set" } else { "not set" };
+    rehearsal.print_tally()?;
+    let mark = if rehearsal.device.is_marked() {
+        "set"
+    } else {
+        "not set"
+    };
     println!(rt; "  mark: {mark}")?;
     Ok(())
 }

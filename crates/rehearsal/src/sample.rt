@@ -50,6 +50,7 @@ impl Sample {
             buffers: Vec::new(heap),
             accelerations: Vec::new(heap),
         };
+        // A write names its binding by a `u32`, so the positions are counted as such.
         for (position, binding) in (0..u32::MAX).zip(bindings.iter()) {
             let descriptor_type = binding.descriptor_type;
             if let Some(kind) = Kind::of_type(descriptor_type) {
@@ -70,23 +71,26 @@ impl Sample {
     // Adds the record of a resource, and answers its place in the list of its kind.
     fn add_record(&mut self, kind: Kind, resource: u64) -> Result<usize, AllocError> {
         match record_list(kind) {
-            RecordList::Images => {
-                self.images.push(image_of(kind, resource))?;
-                Ok(self.images.len() - 1)
-            }
-            RecordList::Buffers => {
-                self.buffers.push(BufferRecord {
+            RecordList::Images => push_at(&mut self.images, image_of(kind, resource)),
+            RecordList::Buffers => push_at(
+                &mut self.buffers,
+                BufferRecord {
                     buffer: resource,
                     offset: 0,
                     range: BUFFER_RANGE,
-                })?;
-                Ok(self.buffers.len() - 1)
-            }
-            RecordList::Accelerations => {
-                self.accelerations
-                    .push(AccelerationRecord { handle: resource })?;
-                Ok(self.accelerations.len() - 1)
-            }
+                },
+            ),
+            RecordList::Accelerations => push_at(
+                &mut self.accelerations,
+                AccelerationRecord { handle: resource },
+            ),
         }
     }
+}
+
+// Adds a record, and answers its place.
+fn push_at<T: Drop>(list: &mut Vec<T>, record: T) -> Result<usize, AllocError> {
+    let place = list.len();
+    list.push(record)?;
+    Ok(place)
 }

@@ -1,7 +1,7 @@
 -- What a line of a script says. Assumes nothing.
 use Rattle.std.specs.Prelude.{ℕ, ◌+◌, true, false, cond, List, [], ◌∷◌, drop, Some, None, Ok, Err, codes, Option, Result, ◌==◌, bit_or}
 use Rattle.std.specs.Option.{option_map, option_flatten, option_or, ok_or}
-use Rattle.std.specs.List.{slice_get}
+use Rattle.std.specs.List.{slice_get, before_first}
 use Rattle.std.specs.Str.{bytes_eq}
 use Rattle.conversion.specs.declared.kinds.EntryKind.{EntryKind}
 use Rattle.conversion.specs.declared.entries.LayoutEntry.{LayoutEntry}
@@ -16,16 +16,19 @@ use Rattle.script.specs.declared.lines.Unreadable.{Unreadable}
 
 -- a line up to a number sign, which begins a comment
 abbrev pub text_of : List ℕ → List ℕ
-text_of [] = []
-text_of (c ∷ cs) = cond (c == 35) [] (c ∷ text_of cs)
+text_of line = before_first (λ c. c == 35) line
+
+-- word i is none of what was expected
+abbrev pub unreadable_at : ℕ → Expected → Unreadable
+unreadable_at i e = record { word = i; expected = e }
 
 -- word i can't be read
 abbrev pub unreadable : {X : Type 0} → ℕ → Expected → Result X Unreadable
-unreadable i e = Err (record { word = i; expected = e })
+unreadable i e = Err (unreadable_at i e)
 
 -- what word i is read as, or what was expected there
 abbrev pub read : {X : Type 0} → (List ℕ → Option X) → List ℕ → ℕ → Expected → Result X Unreadable
-read f t i e = ok_or (option_flatten (option_map (λ s. f (spelled t s)) (slice_get (words t) i))) (record { word = i; expected = e })
+read f t i e = ok_or (option_flatten (option_map (λ s. f (spelled t s)) (slice_get (words t) i))) (unreadable_at i e)
 
 abbrev pub number_at : List ℕ → ℕ → Expected → Result ℕ Unreadable
 number_at t i e = read decimal_of t i e
@@ -45,7 +48,7 @@ and_then (Err u) f = Err u
 -- the stages of some words, from word i on, with those before
 abbrev pub stages_from : List ℕ → ℕ → ℕ → List Span → Result ℕ Unreadable
 stages_from t i s [] = Ok s
-stages_from t i s (w ∷ ws) = and_then (ok_or (stage_bits (spelled t w)) (record { word = i; expected = expected.Stage })) (λ b. stages_from t (i + 1) (bit_or s b) ws)
+stages_from t i s (w ∷ ws) = and_then (ok_or (stage_bits (spelled t w)) (unreadable_at i expected.Stage)) (λ b. stages_from t (i + 1) (bit_or s b) ws)
 
 -- entry BINDING KIND ARRAY STAGE..
 abbrev pub entry_of : List ℕ → Result LayoutEntry Unreadable

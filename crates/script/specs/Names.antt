@@ -1,15 +1,10 @@
 -- The names that a script has for kinds and stages. Assumes nothing.
-use Rattle.std.specs.Prelude.{ℕ, ◌+◌, ◌^◌, cond, List, [], ◌∷◌, Some, None, codes, Option}
+use Rattle.std.specs.Prelude.{ℕ, ◌^◌, cond, List, [], ◌∷◌, Some, codes, Option, position}
 use Rattle.std.specs.Option.{option_map, option_flatten}
 use Rattle.std.specs.Str.{bytes_eq}
 use Rattle.conversion.specs.Kinds.{kind_at}
 use Rattle.conversion.specs.declared.kinds.EntryKind.{EntryKind}
 use Rattle.conversion.specs.declared.kinds.EntryKind.TheVariants.{Descriptor, ExternalTexture}
-
--- the place of a word in a list of names, counted from i
-abbrev pub place_in : List (List ℕ) → List ℕ → ℕ → Option ℕ
-place_in [] w i = None
-place_in (n ∷ ns) w i = cond (bytes_eq w n) (Some i) (place_in ns w (i + 1))
 
 -- the names of the kinds, in key order
 abbrev pub kind_names : List (List ℕ)
@@ -21,8 +16,8 @@ stage_names = codes "vertex" ∷ codes "fragment" ∷ codes "compute" ∷ codes 
 
 -- the kind that has the place of the word
 abbrev pub kind_named : List ℕ → Option EntryKind
-kind_named w = cond (bytes_eq w (codes "external-texture")) (Some ExternalTexture) (option_map Descriptor (option_flatten (option_map kind_at (place_in kind_names w 0))))
+kind_named w = cond (bytes_eq w (codes "external-texture")) (Some ExternalTexture) (option_map Descriptor (option_flatten (option_map kind_at (position (bytes_eq w) kind_names))))
 
 -- the stage's bit
 abbrev pub stage_named : List ℕ → Option ℕ
-stage_named w = option_map (λ i. 2 ^ i) (place_in stage_names w 0)
+stage_named w = option_map (λ i. 2 ^ i) (position (bytes_eq w) stage_names)

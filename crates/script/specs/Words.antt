@@ -3,6 +3,7 @@ use Rattle.std.specs.Prelude.{◌≡◌, ℕ, ◌+◌, ◌-◌, ◌*◌, ◌<◌
 use Rattle.std.specs.Option.{unwrap_or}
 use Rattle.std.specs.Str.{all_ascii_digits}
 use Rattle.script.specs.declared.words.Span.{Span}
+use Rattle.script.specs.declared.words.Words.{Words}
 
 -- a space, a tab or a carriage return
 abbrev pub is_blank : ℕ → Bool
@@ -25,6 +26,10 @@ words_from o i (c ∷ cs) = cond (is_blank c) (closing o i (words_from None (i +
 -- the words of a text: what stands between blanks
 abbrev pub words : List ℕ → List Span
 words t = words_from None 0 t
+
+-- the words that are still to come
+abbrev pub words_left : Words → List Span
+words_left s = words_from None s.at (drop s.at s.text.now)
 
 -- the bytes of a part
 abbrev pub spelled : List ℕ → Span → List ℕ

@@ -1,7 +1,7 @@
 // The names that a script has for kinds and stages.
-ghost use Rattle.std.specs.Prelude.{◌≡◌, map};
+ghost use Rattle.std.specs.Prelude.{◌≡◌, position};
 ghost use Rattle.std.specs.Str.{bytes_eq};
-ghost use Rattle.script.specs.Names.{place_in, kind_named, stage_named};
+ghost use Rattle.script.specs.Names.{kind_named, stage_named};
 
 use conversion::kinds::{EntryKind, Kind};
 
@@ -30,6 +30,7 @@ pub const STAGE_NAMES: [&str; 9] = [
     "closest-hit",
 ];
 
+// `==` has a slice on both sides, and so takes no byte string.
 pub(crate) fn spells(word: &[u8], name: &[u8]) -> bool
     ensures { result ≡ bytes_eq word.now name.now }
 {
@@ -38,14 +39,9 @@ pub(crate) fn spells(word: &[u8], name: &[u8]) -> bool
 
 // The place of a word among names.
 fn place_in(names: &[&str], word: &[u8]) -> Option<usize>
-    ensures { result ≡ place_in (map (λ n. n.now) names.now) word.now 0 }
+    ensures { result ≡ position (λ n. bytes_eq word.now n.now) names.now }
 {
-    for (i, name) in names.iter().enumerate() {
-        if spells(word, name.as_bytes()) {
-            return Some(i);
-        }
-    }
-    None
+    names.iter().position(|name| spells(word, name.as_bytes()))
 }
 
 pub fn kind_named(word: &[u8]) -> Option<EntryKind>
@@ -54,15 +50,14 @@ pub fn kind_named(word: &[u8]) -> Option<EntryKind>
     if spells(word, b"external-texture") {
         return Some(EntryKind::ExternalTexture);
     }
-    let place = place_in(&KIND_NAMES, word)?;
-    let kind = Kind::at_place(place)?;
-    Some(EntryKind::Descriptor(kind))
+    place_in(&KIND_NAMES, word)
+        .and_then(Kind::at_place)
+        .map(EntryKind::Descriptor)
 }
 
 // The bit of the stage.
 pub fn stage_named(word: &[u8]) -> Option<u32>
     ensures { result ≡ stage_named word.now }
 {
-    let place = place_in(&STAGE_NAMES, word)?;
-    Some(1 << place)
+    place_in(&STAGE_NAMES, word).map(|place| 1 << place)
 }

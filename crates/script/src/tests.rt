@@ -25,10 +25,7 @@ fn layout(line: &[u8]) -> Option<(usize, usize, bool)> {
 
 // The first word that can't be read, counted from 0.
 fn unreadable(line: &[u8]) -> Option<usize> {
-    match read_line(line) {
-        Ok(_) => None,
-        Err(unreadable) => Some(unreadable.word),
-    }
+    read_line(line).err().map(|unreadable| unreadable.word)
 }
 
 #[test]
@@ -83,5 +80,15 @@ fn names(rt: HostRuntime) -> Result<(), Fail> {
         assert_eq!(rt; stage_named(name.as_bytes()), Some(*bit));
     }
     assert_eq!(rt; stage_named(b"Vertex"), None);
+    Ok(())
+}
+
+#[test]
+fn printed(rt: HostRuntime) -> Result<(), Fail> {
+    let unreadable = read_line(b"layout a partially-bound b")
+        .err()
+        .ok_or("readable")?;
+    let text = format!(in rt.alloc(); "{unreadable}")?;
+    assert_eq!(rt; text.as_str(), "word 4: expected the end of the line");
     Ok(())
 }

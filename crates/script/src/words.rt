@@ -1,7 +1,8 @@
 // The words of a text, and the numbers that they write.
-ghost use Rattle.std.specs.Prelude.{◌≡◌, IfSome};
-ghost use Rattle.std.specs.List.{slice_get};
-ghost use Rattle.script.specs.Words.{is_blank, words, spelled, Word, decimal_of};
+ghost use Rattle.std.specs.Prelude.{◌≡◌, ◌≤◌, length, IfSome};
+ghost use Rattle.std.specs.Iterator.{YieldsFirst, item_count};
+ghost use Rattle.std.specs.List.{slice_get, prefix_len, position_or_len};
+ghost use Rattle.script.specs.Words.{is_blank, words, words_left, spelled, Word, decimal_of};
 
 const MAX_NUMBER: u64 = 0xffff_ffff;
 
@@ -18,38 +19,63 @@ fn is_blank(byte: u8) -> bool
     byte == b' ' || byte == b'\t' || byte == b'\r'
 }
 
+// How many blanks stand at the start.
+fn blank_count(bytes: &[u8]) -> usize
+    ensures count { result ≡ prefix_len is_blank bytes.now }
+    ensures bound { result ≤ length bytes.now }
+{
+    bytes.iter().take_while(|byte| is_blank(**byte)).count()
+}
+
+// How many bytes stand before the first blank.
+fn word_length(bytes: &[u8]) -> usize
+    ensures count { result ≡ position_or_len is_blank bytes.now }
+    ensures bound { result ≤ length bytes.now }
+{
+    bytes.iter().take_while(|byte| !is_blank(**byte)).count()
+}
+
+// The words of a text, from a position on.
+#[derive(Drop)]
+pub(crate) struct Words<'a> {
+    text: &'a [u8],
+    at: usize,
+}
+
+impl<'a> Words<'a> {
+    pub(crate) fn of(text: &'a [u8]) -> Words<'a>
+        ensures { words_left result ≡ words text.now }
+    {
+        Words { text, at: 0 }
+    }
+}
+
+impl<'a> Iterator for Words<'a> {
+    type Item = Span;
+
+    ghost next_gives = { YieldsFirst words_left };
+
+    ghost remaining = { item_count words_left };
+
+    fn next(&mut self) -> Option<Span> {
+        let rest = self.text.get(self.at..)?;
+        let start = self.at + blank_count(rest);
+        let end = start + word_length(&self.text[start..]);
+        self.at = end;
+        if start < end {
+            Some(Span { start, end })
+        } else {
+            None
+        }
+    }
+}
+
 // Word `index` of a text, counted from 0.
 pub fn word_at(text: &[u8], index: usize) -> Option<Span>
     ensures place { result ≡ slice_get (words text.now) index }
     ensures word { IfSome result (Word text.now) }
 {
-    let mut start: Option<usize> = None;
-    let mut left = index;
-    for (i, byte) in text.iter().enumerate() {
-        if !is_blank(*byte) {
-            start = Some(start.unwrap_or(i));
-        } else if let Some(from) = start {
-            if left == 0 {
-                return Some(Span {
-                    start: from,
-                    end: i,
-                });
-            }
-            left -= 1;
-            start = None;
-        }
-    }
-    let Some(from) = start else {
-        return None;
-    };
-    if left == 0 {
-        Some(Span {
-            start: from,
-            end: text.len(),
-        })
-    } else {
-        None
-    }
+    Words::of(text).nth(index)
 }
 
 // The bytes of a word.
@@ -65,6 +91,7 @@ pub(crate) fn bytes_of(text: &[u8], span: Span) -> &[u8]
 pub fn decimal(word: &[u8]) -> Option<u32>
     ensures { result ≡ decimal_of word.now }
 {
+    // No `str::parse`, which takes a plus sign too.
     let mut value: u64 = 0;
     for byte in word {
         if !byte.is_ascii_digit() {
