@@ -3,29 +3,19 @@ use conversion::bindings::{DeviceBinding, device_bindings, layout_flags};
 use conversion::checks::check_layout;
 use conversion::counts::BucketKey;
 use conversion::entries::LayoutEntry;
-use conversion::faults::LayoutFault;
+use conversion::faults::{FaultReport, LayoutFault};
 use conversion::kinds::KINDS;
 use layouts::Layout;
 use script::names::KIND_NAMES;
 use std::io;
 
-fn reason(fault: LayoutFault) -> &'static str {
-    match fault {
-        LayoutFault::TooManyEntries => "the layout has more than 32 entries",
-        LayoutFault::BindingOrder { .. } => "its binding is not greater than the one before",
-        LayoutFault::ExternalTexture { .. } => "it is an external texture",
-        LayoutFault::TooManyDescriptors { .. } => "the sum of descriptor counts passes 4294967295",
-    }
-}
-
 fn print_refusal(rt: &impl Print, fault: LayoutFault) -> io::Result<()> {
-    let report = fault.report();
+    let report = FaultReport::from(fault);
     println!(rt;
-        "  refusal {}, layer {}, entry {}: {}",
+        "  refusal {}, layer {}, entry {}: {fault}",
         report.number,
-        report.layer.number(),
-        report.entry,
-        reason(fault)
+        u32::from(report.layer),
+        report.entry
     )
 }
 

@@ -2,6 +2,9 @@
 ghost use Rattle.std.specs.Prelude.{◌≡◌};
 ghost use Rattle.conversion.specs.Results.{call_number, refusal_number, plain_error, pool_error, error_of};
 
+use std::error::Error;
+use std::fmt;
+
 // The calls that make something, and can be refused with a result number.
 #[derive(Clone, Copy, Debug, PartialEq, Eq)]
 pub enum DeviceCall {
@@ -40,6 +43,17 @@ impl From<DeviceError> for u32 {
         }
     }
 }
+
+impl fmt::Display for DeviceError {
+    fn fmt<W: fmt::Write>(&self, f: &mut fmt::Formatter<W>) -> fmt::Result {
+        f.write_str(match self {
+            DeviceError::OutOfMemory => "a memory fault",
+            DeviceError::Unexpected => "another fault",
+        })
+    }
+}
+
+impl Error for DeviceError {}
 
 // Results stay numbers, since a device may answer any of 32 bits.
 const ERROR_OUT_OF_HOST_MEMORY: i32 = -1;

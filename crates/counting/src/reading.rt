@@ -10,14 +10,25 @@ use device::records::Descriptor;
 use rows::holdings::Holdings;
 use segments::Segments;
 use std::alloc::{AllocError, Global};
+use std::fmt;
 
 // How many layouts, pools and sets live, and how many descriptors the sets have.
-#[derive(Clone, Copy)]
+#[derive(Clone, Copy, Debug, PartialEq, Eq)]
 pub struct Tally {
     pub layouts: usize,
     pub pools: usize,
     pub sets: usize,
     pub descriptors: usize,
+}
+
+impl fmt::Display for Tally {
+    fn fmt<W: fmt::Write>(&self, f: &mut fmt::Formatter<W>) -> fmt::Result {
+        write!(
+            f,
+            "layouts {}, pools {}, sets {}, descriptors {}",
+            self.layouts, self.pools, self.sets, self.descriptors
+        )
+    }
 }
 
 impl CountingDevice {

@@ -3,6 +3,7 @@ use crate::sample::Sample;
 use conversion::bindings::{DeviceBinding, device_bindings, layout_flags, pool_flags};
 use conversion::checks::check_layout;
 use conversion::counts::BucketKey;
+use conversion::faults::FaultReport;
 use conversion::kinds::{KINDS, Kind};
 use conversion::results::DeviceError;
 use counting::counting::CountingDevice;
@@ -17,8 +18,8 @@ use std::io;
 // How many descriptors the device has room for.
 const ROOM: usize = 1024;
 
-fn kind_name(descriptor_type: u32) -> &'static str {
-    Kind::of_type(descriptor_type).map_or("unknown", |kind| KIND_NAMES[kind.place()])
+fn kind_name(kind: Kind) -> &'static str {
+    KIND_NAMES[kind.place()]
 }
 
 // Prints what a making call answered, and hands on the handle if it made something.
@@ -26,15 +27,10 @@ fn print_answer(rt: &impl Print, answer: Result<u64, DeviceFault>) -> io::Result
     match answer {
         Ok(handle) => println!(rt; "handle {handle}")?,
         Err(fault) => {
-            let meant = match fault.error() {
-                DeviceError::OutOfMemory => "a memory fault",
-                DeviceError::Unexpected => "another fault",
-            };
             println!(rt;
-                "refused, call {}, result {} (refusal {}, {meant})",
-                fault.call.number(),
-                fault.result,
-                fault.report().number
+                "refused, {fault} (refusal {}, {})",
+                FaultReport::from(fault).number,
+                DeviceError::from(fault)
             )?;
         }
     }
@@ -43,7 +39,7 @@ fn print_answer(rt: &impl Print, answer: Result<u64, DeviceFault>) -> io::Result
 
 // A function, as an `impl Display` of the device's own type can't stand here.
 fn print_descriptor(rt: &impl Print, descriptor: &Descriptor) -> io::Result<()> {
-    let name = kind_name(descriptor.descriptor_type);
+    let name = kind_name(descriptor.kind);
     match descriptor.content {
         Content::Image(image) => println!(rt;
             "{name}, sampler {}, view {}, image layout {}",
@@ -62,7 +58,7 @@ fn pool_sizes(heap: Global, key: &BucketKey) -> Result<Vec<PoolSize>, AllocError
     KINDS
         .iter()
         .map(|kind| PoolSize {
-            descriptor_type: kind.type_number(),
+            descriptor_type: u32::from(*kind),
             count: key.counts.of_kind(*kind),
         })
         .filter(|size| size.count > 0)
@@ -75,7 +71,8 @@ fn print_sizes(rt: &impl Print, sizes: &[PoolSize]) -> io::Result<()> {
     }
     for (i, size) in sizes.iter().enumerate() {
         let comma = if i == 0 { "" } else { ", " };
-        print!(rt; "{comma}{} {}", kind_name(size.descriptor_type), size.count)?;
+        let name = Kind::try_from(size.descriptor_type).map_or("unknown", kind_name);
+        print!(rt; "{comma}{name} {}", size.count)?;
     }
     Ok(())
 }
@@ -88,23 +85,14 @@ struct Rehearsal<'a> {
 
 impl<'a> Rehearsal<'a> {
     fn print_tally(&self) -> io::Result<()> {
-        let tally = self.device.tally();
-        println!(self.rt;
-            "  held: layouts {}, pools {}, sets {}, descriptors {}",
-            tally.layouts, tally.pools, tally.sets, tally.descriptors
-        )
+        println!(self.rt; "  held: {}", self.device.tally())
     }
 
     // Writes a sample to each binding of a set in one call, and reads all back.
     fn fill_set(&mut self, set: u64, bindings: &[DeviceBinding]) -> anyhow::Result<()> {
         let rt = self.rt;
         let sample = Sample::for_set(rt.alloc(), set, bindings)?;
-        self.device.update_sets(
-            &sample.writes,
-            &sample.images,
-            &sample.buffers,
-            &sample.accelerations,
-        );
+        self.device.update_sets(&sample.writes, sample.records());
         println!(rt;
             "  write to set {set}, bindings {}, element 0 of each: no answer",
             sample.writes.len()
@@ -168,8 +156,7 @@ impl<'a> Rehearsal<'a> {
     fn try_layout(&mut self, layout: &Layout, key: &BucketKey) -> anyhow::Result<()> {
         let rt = self.rt;
         let count = layout.entries.len();
-        let rows = device_bindings(&layout.entries, layout.partially_bound);
-        let bindings: Vec<DeviceBinding> = rows.iter().take(count).copied().collect(rt.alloc())?;
+        let bindings = device_bindings(&layout.entries, layout.partially_bound);
         let flags = layout_flags(key);
         println!(rt; "on the counting device, layout {}", layout.name)?;
         print!(rt; "  make layout of bindings {count}, flags {flags:#x}: ")?;

@@ -2,7 +2,7 @@
 use conversion::bindings::DeviceBinding;
 use conversion::kinds::Kind;
 use device::records::{
-    AccelerationRecord, BufferRecord, ImageRecord, RecordList, Write, record_list,
+    AccelerationRecord, BufferRecord, ImageRecord, RecordList, Records, Write,
 };
 use std::alloc::{AllocError, Global};
 
@@ -53,7 +53,7 @@ impl Sample {
         // A write names its binding by a `u32`, so the positions are counted as such.
         for (position, binding) in (0..u32::MAX).zip(bindings.iter()) {
             let descriptor_type = binding.descriptor_type;
-            if let Some(kind) = Kind::of_type(descriptor_type) {
+            if let Ok(kind) = Kind::try_from(descriptor_type) {
                 let start = sample.add_record(kind, FIRST_RESOURCE + u64::from(position))?;
                 sample.writes.push(Write {
                     set,
@@ -68,9 +68,17 @@ impl Sample {
         Ok(sample)
     }
 
+    pub(crate) fn records(&self) -> Records<'_> {
+        Records {
+            images: &self.images,
+            buffers: &self.buffers,
+            accelerations: &self.accelerations,
+        }
+    }
+
     // Adds the record of a resource, and answers its place in the list of its kind.
     fn add_record(&mut self, kind: Kind, resource: u64) -> Result<usize, AllocError> {
-        match record_list(kind) {
+        match RecordList::from(kind) {
             RecordList::Images => push_at(&mut self.images, image_of(kind, resource)),
             RecordList::Buffers => push_at(
                 &mut self.buffers,
