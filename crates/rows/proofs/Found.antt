@@ -3,6 +3,9 @@ use Rattle.std.proofs.Common.{◌≡◌, ℕ, zero, suc, ◌<◌, ◌≤◌, Boo
 use native.Mathlib.Decide.{dec_lt}
 use mathlib.Core.Path.{fun_ext}
 use Rattle.std.proofs.lemmas.List.{get_or_past}
+use Rattle.std.proofs.lemmas.List.Sums.{fails_before_first, passes_at_first}
+use Rattle.std.specs.List.{position, position_or_len}
+use Rattle.std.proofs.lemmas.Bool.{lt-ltb, le-ltb}
 use Rattle.std.proofs.lemmas.Bool.Decides.{nat_tests, eqb_tells}
 use Rattle.std.specs.Map.{update}
 use Rattle.std.specs.Option.{option_or, option_map}
@@ -12,7 +15,7 @@ use Rattle.rows.specs.declared.slots.Slot.{Slot}
 use Rattle.rows.specs.Slots.{first_row, is_handle, share, Differ}
 use Rattle.rows.proofs.Truths.{met_at, and_three, nothing}
 use Rattle.rows.specs.declared.table.Table.{Table}
-use Rattle.rows.specs.Tables.{slot, slot_at, one_if_used, row_of, can_put, changed}
+use Rattle.rows.specs.Tables.{slot, slot_at, row_of, can_put, changed}
 
 -- what a search finds is there
 some_there : (f : ℕ → Bool) (n i : ℕ) → first f n ≡ Some i → (f i ≡ true) × (i < n)
@@ -53,6 +56,16 @@ row_zero f = refl
 pub row_suc : (f : ℕ → Bool) (n : ℕ) → first_row f (suc n) ≡ option_or (first_row f n) (cond (f n) (Some n) None)
 unfolding first_row
 row_suc f n = refl
+
+-- the first element of a list that passes stands in the first row at which it does
+pub position-row : {X : Type 0} (p : X → Bool) (xs : List X) (d : X) (n : ℕ) → length xs ≡ n → position p xs ≡ first_row (λ i. p (get_or xs i d)) n
+position-row p xs d n e =
+    let at = position_or_len p xs in
+    let test = λ (i : ℕ). p (get_or xs i d) in
+    elim (dec_lt at (length xs)) [
+      | yes lt ↦ ap (λ b. cond b (Some at) None) (lt-ltb at (length xs) lt) ∙ sym (row_here test at n (omega arith) (all_false test at (λ k l. fails_before_first p xs k d l)) (passes_at_first p xs d lt))
+      | no le ↦ ap (λ b. cond b (Some at) None) (le-ltb at (length xs) (omega arith)) ∙ sym (no_row test n (λ k l. fails_before_first p xs k d (omega arith)))
+    ]
 
 -- equal tests, equal searches
 pub row_same : (f g : ℕ → Bool) (n : ℕ) → ((i : ℕ) → f i ≡ g i) → first_row f n ≡ first_row g n
@@ -236,7 +249,3 @@ module _ {T : Type 0} {n : ℕ} (t : Table T n) (i h : ℕ) (can : true ≡ can_
     | yes lt ↦ row_none (λ j. is_handle h (slot_at t j)) n (nothing (row_of t h) told.2) k lt
     | no le ↦ ap (is_handle h) (get_or_past t.rows k None (omega (arith, t.whole)))
   ]
-
-pub used_at_most : {T : Type 0} (o : Option (Slot T)) → one_if_used o ≤ 1
-used_at_most None = omega arith
-used_at_most (Some s) = omega arith
