@@ -25,7 +25,7 @@ const POOL_UPDATE_AFTER_BIND: u32 = 2;
 const UNCOUNTED_TYPE: u32 = 1;
 
 // A binding as the device has it, all in Vulkan's numbers.
-#[derive(Clone, Copy)]
+#[derive(Clone, Copy, Default)]
 pub struct DeviceBinding {
     pub descriptor_type: u32,
     pub count: u32,

@@ -1,7 +1,7 @@
 -- What rows add up to.
-use Rattle.std.proofs.Common.{◌≡◌, ℕ, zero, suc, ◌+◌, ◌≤◌, List, [], length, get_or, replicate, Some, None, Option, sym, refl, ap, ◌∙◌, add-one, take, sum_by, filter, is_some, cond, arith}
+use Rattle.std.proofs.Common.{◌≡◌, ℕ, zero, suc, ◌*◌, ◌^◌, ◌<◌, ◌≤◌, min, ◌∷◌, List, [], length, get_or, replicate, Some, None, Option, sym, refl, ap, ◌∙◌, add-one, take, sum_by, filter, is_some, cond, arith}
 use Rattle.std.proofs.lemmas.List.{get_or_past, take_all}
-use Rattle.std.proofs.lemmas.List.Sums.{sum_by_more, length-filter}
+use Rattle.std.proofs.lemmas.List.Sums.{sum_by_more, sum_by-cons, length-filter}
 use Rattle.device.specs.Meaning.{sum_below}
 use Rattle.std.proofs.lemmas.Bool.Decides.{nat_tests}
 use Rattle.device.proofs.Below.{below_same}
@@ -25,6 +25,17 @@ sum_by-take f xs d (suc n) l =
 -- and over all of them
 pub sum_by-rows : {X : Type 0} (f : X → ℕ) (xs : List X) (d : X) (n : ℕ) → length xs ≡ n → sum_by f xs ≡ sum_below n (λ i. f (get_or xs i d))
 sum_by-rows f xs d n e = ap (sum_by f) (sym (take_all n xs (omega arith))) ∙ sum_by-take f xs d n (omega arith)
+
+-- what no more than 32 numbers of 32 bits add up to
+abbrev pub held : {X : Type 0} → (X → ℕ) → X → ℕ
+held f x = min (f x) 4294967295
+
+pub sum_by-held : {X : Type 0} (f : X → ℕ) (xs ys : List X) → ys ≡ xs → length ys ≤ 32 → sum_by (held f) xs < 2 ^ 37
+sum_by-held f xs ys e l = omega (arith, ap length e, up_to xs)
+  where
+    up_to : (ys : List _) → sum_by (held f) ys ≤ length ys * 4294967295
+    up_to [] = omega arith
+    up_to (y ∷ ys) = omega (arith, sum_by-cons (held f) y ys, up_to ys)
 
 pub one_at_most : (p : ℕ) (o : Option HeldSet) → in_row p (λ s. 1) o ≤ 1
 one_at_most p None = omega arith

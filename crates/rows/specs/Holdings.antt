@@ -24,7 +24,7 @@ found_by row at h = option_flatten (option_map at (row h))
 
 -- past the last row of bindings there are none
 abbrev pub no_bindings : Bindings
-no_bindings = record { rows = []; length = 0 }
+no_bindings = record { list = record { items = [] } }
 
 -- the bindings in a layout's row
 abbrev pub bindings_at : Holdings → ℕ → List DeviceBinding

@@ -9,7 +9,7 @@ ghost use Rattle.rows.specs.Tables.{slot_at};
 ghost use Rattle.rows.specs.Pools.{live_pool};
 ghost use Rattle.rows.specs.Holdings.{names, is_named, is_free_layout_row, free_layout_row, bindings_at, set_at, in_row, sets_in, used_in, full_at};
 
-use crate::bindings::{Bindings, NO_BINDINGS};
+use crate::bindings::Bindings;
 use crate::holdings::{Holdings, LAYOUT_ROWS, SET_ROWS, SetRow};
 use crate::pools::PoolRow;
 use crate::slots::Slot;
@@ -42,7 +42,7 @@ impl Holdings {
     {
         Holdings {
             layouts: Table::new(),
-            bindings: [NO_BINDINGS; LAYOUT_ROWS],
+            bindings: Default::default(),
             pools: Table::new(),
             sets: Table::new(),
         }

@@ -21,6 +21,9 @@ offset_bounds-self-place c = let lt = free_below c.args.self.now.holdings c.in-O
 pub bounds-self-place : goal.bounds-self-place
 bounds-self-place c = free_below c.args.self.now.holdings c.in-Ok.field-0.place.row c.in-Ok.ensures.row
 
+pub listed : goal.listed
+listed c = omega (arith, free_below c.args.self.now.holdings c.in-Ok.field-0.place.row c.in-Ok.ensures.row, c.args.self.now.holdings.whole)
+
 pub invariant_of-self-in-Ok : goal.invariant_of-self-in-Ok
 invariant_of-self-in-Ok c =
     let d = c.args.self.now in
