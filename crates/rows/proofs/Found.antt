@@ -1,10 +1,12 @@
 -- What a table finds under a handle, as its rows change.
-use Rattle.std.proofs.Common.{◌≡◌, ℕ, zero, suc, ◌<◌, ◌≤◌, Bool, true, false, cond, not, eqb, ltb, ◌⊎◌, List, [], ◌∷◌, length, get_or, set, replicate, is_some, Some, None, Option, sym, refl, ap, ◌∙◌, subst, inl, inr, arith, length-set, get_or-set_other, get_or-set_same}
+use Rattle.std.proofs.Common.{◌≡◌, ℕ, zero, suc, ◌+◌, ◌<◌, ◌≤◌, Bool, true, false, cond, not, eqb, ltb, ◌⊎◌, List, [], ◌∷◌, ◌++◌, length, get_or, set, replicate, is_some, Some, None, Option, sym, refl, ap, ◌∙◌, subst, inl, inr, arith, length-set, get_or-set_other, get_or-set_same}
 use native.Mathlib.Decide.{dec_lt}
 use mathlib.Core.Path.{fun_ext}
 use Rattle.std.proofs.lemmas.List.{get_or_past}
 use Rattle.std.proofs.lemmas.List.Sums.{fails_before_first, passes_at_first}
-use Rattle.std.specs.List.{position, position_or_len}
+use Rattle.std.proofs.lemmas.List.Folds.{find-append}
+use Rattle.std.specs.List.{position, position_or_len, position_from, list_any, find, range_with_len}
+use Rattle.std.proofs.lemmas.Iterator.Adapters.{position_from-zero}
 use Rattle.std.proofs.lemmas.Bool.{lt-ltb, le-ltb}
 use Rattle.std.proofs.lemmas.Bool.Decides.{nat_tests, eqb_tells}
 use Rattle.std.specs.Map.{update}
@@ -66,6 +68,24 @@ position-row p xs d n e =
       | yes lt ↦ ap (λ b. cond b (Some at) None) (lt-ltb at (length xs) lt) ∙ sym (row_here test at n (omega arith) (all_false test at (λ k l. fails_before_first p xs k d l)) (passes_at_first p xs d lt))
       | no le ↦ ap (λ b. cond b (Some at) None) (le-ltb at (length xs) (omega arith)) ∙ sym (no_row test n (λ k l. fails_before_first p xs k d (omega arith)))
     ]
+
+-- whether an element passes
+pub any-row : {X : Type 0} (p : X → Bool) (xs : List X) (d : X) (n : ℕ) → length xs ≡ n → list_any p xs ≡ is_some (first_row (λ i. p (get_or xs i d)) n)
+any-row p xs d n e = from 0 xs ∙ ap is_some (sym (position_from-zero p xs) ∙ position-row p xs d n e)
+  where
+    from : (k : ℕ) (ys : List _) → list_any p ys ≡ is_some (position_from p k ys)
+    from k [] = refl
+    from k (y ∷ ys) = let more = from (k + 1) ys in grind arith
+
+-- the first number that passes
+range-suc : (a n k : ℕ) → a + n ≡ k → range_with_len a (suc n) ≡ range_with_len a n ++ k ∷ []
+range-suc a zero k e = let same : a ≡ k = omega arith in ap (λ i. i ∷ []) same
+range-suc a (suc n) k e = ap (λ ks. a ∷ ks) (range-suc (a + 1) n k (omega arith))
+
+pub find-range : (p : ℕ → Bool) (n : ℕ) → find p (range_with_len 0 n) ≡ first_row p n
+unfolding first_row
+find-range p zero = refl
+find-range p (suc n) = ap (find p) (range-suc 0 n n (omega arith)) ∙ (find-append p (range_with_len 0 n) (n ∷ []) ∙ ap (λ o. option_or o (cond (p n) (Some n) None)) (find-range p n))
 
 -- equal tests, equal searches
 pub row_same : (f g : ℕ → Bool) (n : ℕ) → ((i : ℕ) → f i ≡ g i) → first_row f n ≡ first_row g n

@@ -21,16 +21,13 @@ use conversion::kinds::{KINDS, Kind};
 fn is_of_layout(slot: Option<Slot<SetRow>>, layout: usize) -> bool
     ensures { result ≡ names layout slot }
 {
-    match slot {
-        Some(s) => s.value.layout == layout,
-        None => false,
-    }
+    slot.is_some_and(|set| set.value.layout == layout)
 }
 
 fn at_most(n: u64, most: u32) -> u32
     ensures { result ≡ at_most n most }
 {
-    if n > u64::from(most) { most } else { n as u32 }
+    n.min(u64::from(most)) as u32
 }
 
 impl Holdings {
@@ -52,12 +49,7 @@ impl Holdings {
     fn is_named(&self, layout: usize) -> bool
         ensures { result ≡ is_named self.now layout }
     {
-        for i in 0..SET_ROWS {
-            if is_of_layout(self.sets.slot(i), layout) {
-                return true;
-            }
-        }
-        false
+        self.sets.rows.iter().any(|row| is_of_layout(*row, layout))
     }
 
     fn is_free_layout_row(&self, j: usize) -> bool
@@ -70,12 +62,7 @@ impl Holdings {
     pub fn free_layout_row(&self) -> Option<usize>
         ensures { result ≡ free_layout_row self.now }
     {
-        for j in 0..LAYOUT_ROWS {
-            if self.is_free_layout_row(j) {
-                return Some(j);
-            }
-        }
-        None
+        (0..LAYOUT_ROWS).find(|&j| self.is_free_layout_row(j))
     }
 }
 
@@ -85,11 +72,9 @@ impl Holdings {
         ensures is { result ≡ kind_count kind (bindings_at self.now layout) }
         ensures small { result < 2 ^ 37 }
     {
-        if layout < LAYOUT_ROWS {
-            self.bindings[layout].count_of(kind)
-        } else {
-            0
-        }
+        self.bindings
+            .get(layout)
+            .map_or(0, |bindings| bindings.count_of(kind))
     }
 
     // One for a set in the pool.
@@ -149,15 +134,10 @@ impl Holdings {
     pub fn is_full(&self, handle: u64, pool: &PoolRow, layout: usize) -> bool
         ensures { result ≡ full_at self.now handle (live_pool pool.now) layout }
     {
-        if u64::from(pool.most) <= self.sets_in(handle) {
-            return true;
-        }
-        for kind in KINDS {
-            if self.lacks(handle, pool, layout, kind) {
-                return true;
-            }
-        }
-        false
+        u64::from(pool.most) <= self.sets_in(handle)
+            || KINDS
+                .iter()
+                .any(|&kind| self.lacks(handle, pool, layout, kind))
     }
 }
 
@@ -167,11 +147,9 @@ impl Holdings {
         ensures is { result ≡ total_of (bindings_at self.now layout) }
         ensures small { result < 2 ^ 37 }
     {
-        if layout < LAYOUT_ROWS {
-            self.bindings[layout].total()
-        } else {
-            0
-        }
+        self.bindings
+            .get(layout)
+            .map_or(0, |bindings| bindings.total())
     }
 
     // How many of them stand before binding i.
@@ -179,22 +157,16 @@ impl Holdings {
         ensures is { result ≡ start_of (bindings_at self.now layout) i }
         ensures small { result < 2 ^ 37 }
     {
-        if layout < LAYOUT_ROWS {
-            self.bindings[layout].start(i)
-        } else {
-            0
-        }
+        self.bindings
+            .get(layout)
+            .map_or(0, |bindings| bindings.start(i))
     }
 
     // Binding i of the layout in a row.
     pub fn binding(&self, layout: usize, i: usize) -> Option<DeviceBinding>
         ensures { result ≡ slice_get (bindings_at self.now layout) i }
     {
-        if layout < LAYOUT_ROWS {
-            self.bindings[layout].get(i)
-        } else {
-            None
-        }
+        self.bindings.get(layout)?.get(i)
     }
 
     // Its counts by kind, held to some others, so that they fit.
