@@ -7,7 +7,7 @@ ghost use Rattle.conversion.specs.Counts.{counts_by};
 ghost use Rattle.rows.specs.Bindings.{kind_count, total_of, start_of, at_most};
 ghost use Rattle.rows.specs.Tables.{slot_at};
 ghost use Rattle.rows.specs.Pools.{live_pool};
-ghost use Rattle.rows.specs.Holdings.{names, is_named, is_free_layout_row, free_layout_row, bindings_at, set_at, in_row, sets_in, used_in, full_at};
+ghost use Rattle.rows.specs.Holdings.{names, is_of_pool, held_of, is_named, is_free_layout_row, free_layout_row, bindings_at, set_at, in_row, sets_in, used_in, full_at};
 
 use crate::bindings::Bindings;
 use crate::holdings::{Holdings, LAYOUT_ROWS, SET_ROWS, SetRow};
@@ -22,6 +22,12 @@ fn is_of_layout(slot: Option<Slot<SetRow>>, layout: usize) -> bool
     ensures { result ≡ names layout slot }
 {
     slot.is_some_and(|set| set.value.layout == layout)
+}
+
+fn is_of_pool(slot: Option<Slot<SetRow>>, pool: u64) -> bool
+    ensures { result ≡ is_of_pool pool slot }
+{
+    slot.is_some_and(|set| set.value.pool == pool)
 }
 
 fn at_most(n: u64, most: u32) -> u32
@@ -77,50 +83,35 @@ impl Holdings {
             .map_or(0, |bindings| bindings.count_of(kind))
     }
 
-    // One for a set in the pool.
-    fn set_in(&self, i: usize, pool: u64) -> u64
-        ensures { result ≡ in_row pool (λ s. 1) (set_at self.now i) }
-    {
-        match self.sets.slot(i) {
-            Some(set) => if set.value.pool == pool { 1 } else { 0 },
-            None => 0,
-        }
-    }
-
-    // What the set in a row has of a kind, if it is in the pool.
-    fn used_by(&self, i: usize, pool: u64, kind: Kind) -> u64
-        ensures is { result ≡ in_row pool (λ s. kind_count kind s.bindings) (set_at self.now i) }
-        ensures small { result < 2 ^ 37 }
-    {
-        match self.sets.slot(i) {
-            Some(set) => if set.value.pool == pool {
-                self.kind_count(set.value.layout, kind)
-            } else {
-                0
-            },
-            None => 0,
-        }
-    }
-
+    // How many sets live in a pool.
     fn sets_in(&self, pool: u64) -> u64
         ensures { result ≡ sets_in self.now pool }
     {
-        let mut sum = 0;
-        for i in 0..SET_ROWS {
-            sum += self.set_in(i, pool);
-        }
-        sum
+        self.sets
+            .rows
+            .iter()
+            .filter(|row| is_of_pool(**row, pool))
+            .count() as u64
+    }
+
+    // What the set in a row has of a kind, if it lives in the pool.
+    fn used_by(&self, row: Option<Slot<SetRow>>, pool: u64, kind: Kind) -> u64
+        ensures is { result ≡ in_row pool (λ s. kind_count kind s.bindings) (held_of self.now.bindings row) }
+        ensures small { result < 2 ^ 37 }
+    {
+        row.filter(|set| set.value.pool == pool)
+            .map_or(0, |set| self.kind_count(set.value.layout, kind))
     }
 
     fn used_in(&self, pool: u64, kind: Kind) -> u64
         ensures is { result ≡ used_in self.now pool kind }
         ensures small { result < 2 ^ 47 }
     {
-        let mut sum = 0;
-        for i in 0..SET_ROWS {
-            sum += self.used_by(i, pool, kind);
-        }
-        sum
+        self.sets
+            .rows
+            .iter()
+            .map(|row| self.used_by(*row, pool, kind))
+            .sum()
     }
 
     fn lacks(&self, handle: u64, pool: &PoolRow, layout: usize, kind: Kind) -> bool
