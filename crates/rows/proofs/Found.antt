@@ -12,7 +12,7 @@ use Rattle.std.proofs.lemmas.Bool.Decides.{nat_tests, eqb_tells}
 use Rattle.std.specs.Map.{update}
 use Rattle.std.specs.Option.{option_or, option_map}
 use Rattle.conversion.specs.Lists.{first}
-use Rattle.conversion.proofs.Searches.{first_none, first_fewer, first_at, all_false}
+use Rattle.conversion.proofs.Searches.{first_none, first_at, all_false}
 use Rattle.rows.specs.declared.slots.Slot.{Slot}
 use Rattle.rows.specs.Slots.{first_row, is_handle, share, Differ}
 use Rattle.rows.proofs.Truths.{met_at, and_three, nothing}
@@ -41,14 +41,10 @@ pub no_row : (f : ℕ → Bool) (n : ℕ) → ((i : ℕ) → i < n → f i ≡ f
 unfolding first_row
 no_row f n e = all_false f n e
 
--- a search that ends at a row, and one that has passed all
+-- a search that ends at a row
 pub row_here : (f : ℕ → Bool) (i n : ℕ) → i < n → first f i ≡ None → f i ≡ true → first_row f n ≡ Some i
 unfolding first_row
 row_here f i n lt e x = first_at f i n lt e x
-
-pub row_end : (f : ℕ → Bool) (i n : ℕ) → n ≤ i → first f i ≡ None → first_row f n ≡ None
-unfolding first_row
-row_end f i n le e = first_fewer f n i le e
 
 -- a search from its beginning, row by row
 pub row_zero : (f : ℕ → Bool) → first_row f 0 ≡ None

@@ -3,7 +3,7 @@ ghost use Rattle.std.specs.Prelude.{◌≡◌, replicate, if◌then◌else◌, S
 ghost use Rattle.std.specs.Map.{update};
 ghost use Rattle.std.specs.Option.{option_map};
 ghost use Rattle.rows.specs.Slots.{is_handle};
-ghost use Rattle.rows.specs.Tables.{slot, one_if_used, used_rows, slot_at, row_of, unused_row, can_put, changed};
+ghost use Rattle.rows.specs.Tables.{slot, used_rows, slot_at, row_of, unused_row, can_put, changed};
 
 use crate::slots::{Found, Slot};
 use crate::table::Table;

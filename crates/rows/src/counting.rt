@@ -1,16 +1,13 @@
 // What the rows add up to.
-ghost use Rattle.std.specs.Prelude.{◌≡◌, ℕ, ◌+◌, ◌^◌, ◌<◌, ◌≤◌, false, cond, not, ◌&&◌, [], replicate, None, nat_lt};
-ghost use Rattle.conversion.specs.Counts.{count_of};
-ghost use Rattle.device.specs.Meaning.{binding_counts};
+ghost use Rattle.std.specs.Prelude.{◌≡◌, ℕ, ◌+◌, ◌^◌, ◌<◌, [], replicate, None, nat_lt};
 ghost use Rattle.std.specs.List.{slice_get};
-ghost use Rattle.conversion.specs.Counts.{counts_by};
+ghost use Rattle.conversion.specs.Counts.{count_of, counts_by};
 ghost use Rattle.rows.specs.Bindings.{kind_count, total_of, start_of, at_most};
-ghost use Rattle.rows.specs.Tables.{slot_at};
 ghost use Rattle.rows.specs.Pools.{live_pool};
-ghost use Rattle.rows.specs.Holdings.{names, is_of_pool, held_of, is_named, is_free_layout_row, free_layout_row, bindings_at, set_at, in_row, sets_in, used_in, full_at};
+ghost use Rattle.rows.specs.Holdings.{names, is_of_pool, held_of, is_named, is_free_layout_row, free_layout_row, bindings_at, in_row, sets_in, used_in, full_at};
 
 use crate::bindings::Bindings;
-use crate::holdings::{Holdings, LAYOUT_ROWS, SET_ROWS, SetRow};
+use crate::holdings::{Holdings, LAYOUT_ROWS, SetRow};
 use crate::pools::PoolRow;
 use crate::slots::Slot;
 use crate::table::Table;
