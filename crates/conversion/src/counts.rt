@@ -1,5 +1,6 @@
 // Descriptors counted by kind, and the key of a bucket.
 ghost use Rattle.std.specs.Prelude.{◌≡◌, ◌+◌, ◌^◌, ◌<◌, Decides};
+ghost use Rattle.conversion.specs.declared.kinds.Kind.{Kind};
 ghost use Rattle.conversion.specs.Counts.{count_of, total, counts_eq, key_eq};
 ghost use Rattle.conversion.specs.Layouts.{entry_count, counting};
 ghost use Rattle.std.specs.Cmp.Rules.{comparing};
@@ -71,6 +72,23 @@ pub(crate) const NO_COUNTS: DescriptorCounts = DescriptorCounts {
 };
 
 impl DescriptorCounts {
+    // The counts, by the count of each kind.
+    pub fn by<F: Fn(Kind) -> u32>(count: F) -> DescriptorCounts
+        requires { F.IsAlwaysCallable count }
+        ensures { (k : Kind) → F.post count k (count_of result k) }
+    {
+        DescriptorCounts {
+            sampler: count(Kind::Sampler),
+            sampled_image: count(Kind::SampledImage),
+            storage_image: count(Kind::StorageImage),
+            uniform_buffer: count(Kind::UniformBuffer),
+            uniform_buffer_dynamic: count(Kind::UniformBufferDynamic),
+            storage_buffer: count(Kind::StorageBuffer),
+            storage_buffer_dynamic: count(Kind::StorageBufferDynamic),
+            acceleration_structure: count(Kind::AccelerationStructure),
+        }
+    }
+
     // The count of one kind.
     pub fn of_kind(&self, kind: Kind) -> u32
         ensures { result ≡ count_of self.now kind }

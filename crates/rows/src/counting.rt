@@ -161,36 +161,6 @@ impl Holdings {
     pub fn counts(&self, layout: usize, most: &DescriptorCounts) -> DescriptorCounts
         ensures { result ≡ counts_by (λ k. at_most (kind_count k (bindings_at self.now layout)) (count_of most.now k)) }
     {
-        DescriptorCounts {
-            sampler: at_most(self.kind_count(layout, Kind::Sampler), most.sampler),
-            sampled_image: at_most(
-                self.kind_count(layout, Kind::SampledImage),
-                most.sampled_image,
-            ),
-            storage_image: at_most(
-                self.kind_count(layout, Kind::StorageImage),
-                most.storage_image,
-            ),
-            uniform_buffer: at_most(
-                self.kind_count(layout, Kind::UniformBuffer),
-                most.uniform_buffer,
-            ),
-            uniform_buffer_dynamic: at_most(
-                self.kind_count(layout, Kind::UniformBufferDynamic),
-                most.uniform_buffer_dynamic,
-            ),
-            storage_buffer: at_most(
-                self.kind_count(layout, Kind::StorageBuffer),
-                most.storage_buffer,
-            ),
-            storage_buffer_dynamic: at_most(
-                self.kind_count(layout, Kind::StorageBufferDynamic),
-                most.storage_buffer_dynamic,
-            ),
-            acceleration_structure: at_most(
-                self.kind_count(layout, Kind::AccelerationStructure),
-                most.acceleration_structure,
-            ),
-        }
+        DescriptorCounts::by(|kind| at_most(self.kind_count(layout, kind), most.of_kind(kind)))
     }
 }

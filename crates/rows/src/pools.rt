@@ -54,16 +54,7 @@ fn size_counts(sizes: &[PoolSize]) -> DescriptorCounts
     requires { invalid_sizes sizes.now ≡ false }
     ensures { result ≡ size_counts sizes.now }
 {
-    DescriptorCounts {
-        sampler: size_of(sizes, Kind::Sampler),
-        sampled_image: size_of(sizes, Kind::SampledImage),
-        storage_image: size_of(sizes, Kind::StorageImage),
-        uniform_buffer: size_of(sizes, Kind::UniformBuffer),
-        uniform_buffer_dynamic: size_of(sizes, Kind::UniformBufferDynamic),
-        storage_buffer: size_of(sizes, Kind::StorageBuffer),
-        storage_buffer_dynamic: size_of(sizes, Kind::StorageBufferDynamic),
-        acceleration_structure: size_of(sizes, Kind::AccelerationStructure),
-    }
+    DescriptorCounts::by(|kind| size_of(sizes, kind))
 }
 
 fn is_other(first: Option<DescriptorCounts>, counts: &DescriptorCounts) -> bool
