@@ -1,6 +1,5 @@
 // Descriptors counted by kind, and the key of a bucket.
 ghost use Rattle.std.specs.Prelude.{◌≡◌, ◌+◌, ◌^◌, ◌<◌, Decides};
-ghost use Rattle.conversion.specs.declared.kinds.Kind.{Kind};
 ghost use Rattle.conversion.specs.Counts.{count_of, total, counts_eq, key_eq};
 ghost use Rattle.conversion.specs.Layouts.{entry_count, counting};
 ghost use Rattle.std.specs.Cmp.Rules.{comparing};
@@ -72,10 +71,10 @@ pub(crate) const NO_COUNTS: DescriptorCounts = DescriptorCounts {
 };
 
 impl DescriptorCounts {
-    // The counts, by the count of each kind.
+    // Eight counts, each from its kind.
     pub fn by<F: Fn(Kind) -> u32>(count: F) -> DescriptorCounts
         requires { F.IsAlwaysCallable count }
-        ensures { (k : Kind) → F.post count k (count_of result k) }
+        ensures { (kind : Kind) → F.post count kind (count_of result kind) }
     {
         DescriptorCounts {
             sampler: count(Kind::Sampler),
