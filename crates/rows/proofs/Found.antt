@@ -1,18 +1,23 @@
 -- What a table finds under a handle, as its rows change.
-use Rattle.std.proofs.Common.{◌≡◌, ℕ, zero, suc, ◌<◌, ◌≤◌, Bool, true, false, cond, not, eqb, ltb, ◌⊎◌, List, [], ◌∷◌, length, get_or, set, replicate, is_some, Some, None, Option, sym, refl, ap, ◌∙◌, subst, inl, inr, arith, length-set, get_or-set_other, get_or-set_same}
+use Rattle.std.proofs.Common.{◌≡◌, ℕ, zero, suc, ◌+◌, ◌<◌, ◌≤◌, Bool, true, false, cond, not, eqb, ltb, ◌⊎◌, List, [], ◌∷◌, ◌++◌, length, get_or, set, replicate, is_some, Some, None, Option, sym, refl, ap, ◌∙◌, subst, inl, inr, arith, length-set, get_or-set_other, get_or-set_same}
 use native.Mathlib.Decide.{dec_lt}
 use mathlib.Core.Path.{fun_ext}
 use Rattle.std.proofs.lemmas.List.{get_or_past}
+use Rattle.std.proofs.lemmas.List.Sums.{fails_before_first, passes_at_first}
+use Rattle.std.proofs.lemmas.List.Folds.{find-append}
+use Rattle.std.specs.List.{position, position_or_len, position_from, list_any, find, range_with_len}
+use Rattle.std.proofs.lemmas.Iterator.Adapters.{position_from-zero}
+use Rattle.std.proofs.lemmas.Bool.{lt-ltb, le-ltb}
 use Rattle.std.proofs.lemmas.Bool.Decides.{nat_tests, eqb_tells}
 use Rattle.std.specs.Map.{update}
 use Rattle.std.specs.Option.{option_or, option_map}
 use Rattle.conversion.specs.Lists.{first}
-use Rattle.conversion.proofs.Searches.{first_none, first_fewer, first_at, all_false}
+use Rattle.conversion.proofs.Searches.{first_none, first_at, all_false}
 use Rattle.rows.specs.declared.slots.Slot.{Slot}
 use Rattle.rows.specs.Slots.{first_row, is_handle, share, Differ}
 use Rattle.rows.proofs.Truths.{met_at, and_three, nothing}
 use Rattle.rows.specs.declared.table.Table.{Table}
-use Rattle.rows.specs.Tables.{slot, slot_at, one_if_used, row_of, can_put, changed}
+use Rattle.rows.specs.Tables.{slot, slot_at, row_of, can_put, changed}
 
 -- what a search finds is there
 some_there : (f : ℕ → Bool) (n i : ℕ) → first f n ≡ Some i → (f i ≡ true) × (i < n)
@@ -36,14 +41,10 @@ pub no_row : (f : ℕ → Bool) (n : ℕ) → ((i : ℕ) → i < n → f i ≡ f
 unfolding first_row
 no_row f n e = all_false f n e
 
--- a search that ends at a row, and one that has passed all
+-- a search that ends at a row
 pub row_here : (f : ℕ → Bool) (i n : ℕ) → i < n → first f i ≡ None → f i ≡ true → first_row f n ≡ Some i
 unfolding first_row
 row_here f i n lt e x = first_at f i n lt e x
-
-pub row_end : (f : ℕ → Bool) (i n : ℕ) → n ≤ i → first f i ≡ None → first_row f n ≡ None
-unfolding first_row
-row_end f i n le e = first_fewer f n i le e
 
 -- a search from its beginning, row by row
 pub row_zero : (f : ℕ → Bool) → first_row f 0 ≡ None
@@ -53,6 +54,34 @@ row_zero f = refl
 pub row_suc : (f : ℕ → Bool) (n : ℕ) → first_row f (suc n) ≡ option_or (first_row f n) (cond (f n) (Some n) None)
 unfolding first_row
 row_suc f n = refl
+
+-- the first element of a list that passes stands in the first row at which it does
+pub position-row : {X : Type 0} (p : X → Bool) (xs : List X) (d : X) (n : ℕ) → length xs ≡ n → position p xs ≡ first_row (λ i. p (get_or xs i d)) n
+position-row p xs d n e =
+    let at = position_or_len p xs in
+    let test = λ (i : ℕ). p (get_or xs i d) in
+    elim (dec_lt at (length xs)) [
+      | yes lt ↦ ap (λ b. cond b (Some at) None) (lt-ltb at (length xs) lt) ∙ sym (row_here test at n (omega arith) (all_false test at (λ k l. fails_before_first p xs k d l)) (passes_at_first p xs d lt))
+      | no le ↦ ap (λ b. cond b (Some at) None) (le-ltb at (length xs) (omega arith)) ∙ sym (no_row test n (λ k l. fails_before_first p xs k d (omega arith)))
+    ]
+
+-- whether an element passes
+pub any-row : {X : Type 0} (p : X → Bool) (xs : List X) (d : X) (n : ℕ) → length xs ≡ n → list_any p xs ≡ is_some (first_row (λ i. p (get_or xs i d)) n)
+any-row p xs d n e = from 0 xs ∙ ap is_some (sym (position_from-zero p xs) ∙ position-row p xs d n e)
+  where
+    from : (k : ℕ) (ys : List _) → list_any p ys ≡ is_some (position_from p k ys)
+    from k [] = refl
+    from k (y ∷ ys) = let more = from (k + 1) ys in grind arith
+
+-- the first number that passes
+range-suc : (a n k : ℕ) → a + n ≡ k → range_with_len a (suc n) ≡ range_with_len a n ++ k ∷ []
+range-suc a zero k e = let same : a ≡ k = omega arith in ap (λ i. i ∷ []) same
+range-suc a (suc n) k e = ap (λ ks. a ∷ ks) (range-suc (a + 1) n k (omega arith))
+
+pub find-range : (p : ℕ → Bool) (n : ℕ) → find p (range_with_len 0 n) ≡ first_row p n
+unfolding first_row
+find-range p zero = refl
+find-range p (suc n) = ap (find p) (range-suc 0 n n (omega arith)) ∙ (find-append p (range_with_len 0 n) (n ∷ []) ∙ ap (λ o. option_or o (cond (p n) (Some n) None)) (find-range p n))
 
 -- equal tests, equal searches
 pub row_same : (f g : ℕ → Bool) (n : ℕ) → ((i : ℕ) → f i ≡ g i) → first_row f n ≡ first_row g n
@@ -236,7 +265,3 @@ module _ {T : Type 0} {n : ℕ} (t : Table T n) (i h : ℕ) (can : true ≡ can_
     | yes lt ↦ row_none (λ j. is_handle h (slot_at t j)) n (nothing (row_of t h) told.2) k lt
     | no le ↦ ap (is_handle h) (get_or_past t.rows k None (omega (arith, t.whole)))
   ]
-
-pub used_at_most : {T : Type 0} (o : Option (Slot T)) → one_if_used o ≤ 1
-used_at_most None = omega arith
-used_at_most (Some s) = omega arith

@@ -37,10 +37,6 @@ found_slot t h i s r e = e ∙ has_slot h s (ap (is_handle h) (sym e) ∙ (found
 pub found_used : {T R : Type 0} {n : ℕ} (t : Table T n) (h i : ℕ) → row_of t h ≡ Some i → slot_at t i ≡ None → R
 found_used t h i r e = clash (found_has t h i r).0 (ap (is_handle h) e)
 
--- rows are found by what stands in them
-rows_found : {T : Type 0} {n : ℕ} (t t' : Table T n) → slot_at t' ≡ slot_at t → row_of t' ≡ row_of t
-rows_found {n = n} t t' e = ap (λ s. λ q. first_row (λ k. is_handle q (s k)) n) e
-
 module _ {T X : Type 0} {n : ℕ} where
   -- a row with a value put into it
   pub found_put : (t t' : Table T n) (i h : ℕ) (x : T) (at at' : ℕ → Option X) (y : X)

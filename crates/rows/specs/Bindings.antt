@@ -7,7 +7,7 @@ use Rattle.rows.specs.declared.bindings.Bindings.{Bindings}
 
 -- the bindings as a list
 abbrev pub list_of : Bindings → List DeviceBinding
-list_of b = take b.length b.rows
+list_of b = b.list.items
 
 -- how many descriptors of a kind a binding has
 abbrev pub of_kind : Kind → DeviceBinding → ℕ

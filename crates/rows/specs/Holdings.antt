@@ -24,7 +24,7 @@ found_by row at h = option_flatten (option_map at (row h))
 
 -- past the last row of bindings there are none
 abbrev pub no_bindings : Bindings
-no_bindings = record { rows = []; length = 0 }
+no_bindings = record { list = record { items = [] } }
 
 -- the bindings in a layout's row
 abbrev pub bindings_at : Holdings → ℕ → List DeviceBinding
@@ -51,9 +51,13 @@ pub record HeldSet : Type 0 where
   pub pool : ℕ
   pub bindings : List DeviceBinding
 
+-- what stands in a row as a live set, by rows of bindings
+abbrev pub held_of : List Bindings → Option (Slot SetRow) → Option HeldSet
+held_of bindings o = option_map (λ s. record { pool = s.value.pool; bindings = list_of (slice_index_or bindings s.value.layout no_bindings) }) o
+
 -- the live set in a row, by rows of bindings and of sets
 abbrev pub held_in : List Bindings → Table SetRow 1024 → ℕ → Option HeldSet
-held_in bindings sets i = option_map (λ s. record { pool = s.value.pool; bindings = list_of (slice_index_or bindings s.value.layout no_bindings) }) (slot_at sets i)
+held_in bindings sets i = held_of bindings (slot_at sets i)
 
 abbrev pub set_at : Holdings → ℕ → Option HeldSet
 set_at d = held_in d.bindings d.sets
@@ -70,6 +74,11 @@ total_at d i = held_total (set_at d i)
 abbrev pub names : ℕ → Option (Slot SetRow) → Bool
 names j None = false
 names j (Some s) = s.value.layout == j
+
+-- whether the set in a row lives in the pool
+abbrev pub is_of_pool : ℕ → Option (Slot SetRow) → Bool
+is_of_pool p None = false
+is_of_pool p (Some s) = s.value.pool == p
 
 abbrev pub is_named : Holdings → ℕ → Bool
 is_named d j = is_some (first_row (λ i. names j (slot_at d.sets i)) 1024)

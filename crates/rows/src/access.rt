@@ -3,7 +3,7 @@ ghost use Rattle.std.specs.Prelude.{◌≡◌, replicate, if◌then◌else◌, S
 ghost use Rattle.std.specs.Map.{update};
 ghost use Rattle.std.specs.Option.{option_map};
 ghost use Rattle.rows.specs.Slots.{is_handle};
-ghost use Rattle.rows.specs.Tables.{slot, one_if_used, used_rows, slot_at, row_of, unused_row, can_put, changed};
+ghost use Rattle.rows.specs.Tables.{slot, used_rows, slot_at, row_of, unused_row, can_put, changed};
 
 use crate::slots::{Found, Slot};
 use crate::table::Table;
@@ -11,31 +11,13 @@ use crate::table::Table;
 fn is_handle<T: Copy>(row: Option<Slot<T>>, handle: u64) -> bool
     ensures { result ≡ is_handle handle row }
 {
-    match row {
-        Some(slot) => slot.handle == handle,
-        None => false,
-    }
-}
-
-fn one_if_used<T: Copy>(row: Option<Slot<T>>) -> usize
-    ensures { result ≡ one_if_used row }
-{
-    match row {
-        Some(_) => 1,
-        None => 0,
-    }
+    row.is_some_and(|slot| slot.handle == handle)
 }
 
 fn with_value<T: Copy>(row: Option<Slot<T>>, value: T) -> Option<Slot<T>>
     ensures { result ≡ option_map (λ s. slot s.handle value) row }
 {
-    match row {
-        Some(slot) => Some(Slot {
-            handle: slot.handle,
-            value,
-        }),
-        None => None,
-    }
+    row.map(|slot| Slot { value, ..slot })
 }
 
 impl<T: Copy, const N: usize> Table<T, N> {
@@ -48,40 +30,26 @@ impl<T: Copy, const N: usize> Table<T, N> {
     pub fn row_of(&self, handle: u64) -> Option<usize>
         ensures { result ≡ row_of self.now handle }
     {
-        for i in 0..N {
-            if is_handle(self.slot(i), handle) {
-                return Some(i);
-            }
-        }
-        None
+        self.rows.iter().position(|row| is_handle(*row, handle))
     }
 
     pub fn unused_row(&self) -> Option<usize>
         ensures { result ≡ unused_row self.now }
     {
-        for i in 0..N {
-            if self.slot(i).is_none() {
-                return Some(i);
-            }
-        }
-        None
+        self.rows.iter().position(|row| row.is_none())
     }
 
     // How many rows are used.
     pub fn count(&self) -> usize
         ensures { result ≡ used_rows self.now }
     {
-        let mut sum = 0;
-        for i in 0..N {
-            sum += one_if_used(self.slot(i));
-        }
-        sum
+        self.rows.iter().filter(|row| row.is_some()).count()
     }
 
     pub fn slot(&self, i: usize) -> Option<Slot<T>>
         ensures { result ≡ slot_at self.now i }
     {
-        if i < N { self.rows[i] } else { None }
+        self.rows.get(i).copied().flatten()
     }
 }
 

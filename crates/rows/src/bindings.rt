@@ -3,30 +3,18 @@ ghost use Rattle.std.specs.Prelude.{◌≡◌, ◌^◌, ◌<◌, ◌≤◌, leng
 ghost use Rattle.std.specs.List.{slice_get};
 ghost use Rattle.rows.specs.Bindings.{list_of, of_kind, kind_count, total_of, start_of};
 
+use arrayvec::ArrayVec;
 use conversion::bindings::DeviceBinding;
 use conversion::kinds::Kind;
 
 // The most bindings that a device layout can have here.
 pub const MAX_BINDINGS: usize = 32;
 
-const NO_BINDING: DeviceBinding = DeviceBinding {
-    descriptor_type: 0,
-    count: 0,
-    stages: 0,
-    flags: 0,
-};
-
-// The first `length` of the rows.
-#[derive(Clone, Copy)]
+// A list of bindings in a row of its own.
+#[derive(Default, Drop)]
 pub struct Bindings {
-    pub(crate) rows: [DeviceBinding; MAX_BINDINGS],
-    pub(crate) length: usize,
+    list: ArrayVec<DeviceBinding, MAX_BINDINGS>,
 }
-
-pub const NO_BINDINGS: Bindings = Bindings {
-    rows: [NO_BINDING; MAX_BINDINGS],
-    length: 0,
-};
 
 // What a binding has of a kind.
 fn of_kind(binding: &DeviceBinding, kind: Kind) -> u32
@@ -39,65 +27,19 @@ fn of_kind(binding: &DeviceBinding, kind: Kind) -> u32
     }
 }
 
-fn sum_of_kind(list: &[DeviceBinding], kind: Kind) -> u64
-    requires { length list.now ≤ 32 }
-    ensures is { result ≡ kind_count kind list.now }
-    ensures small { result < 2 ^ 37 }
-{
-    let mut sum = 0;
-    for binding in list {
-        sum += u64::from(of_kind(binding, kind));
-    }
-    sum
-}
-
-fn sum_of_all(list: &[DeviceBinding]) -> usize
-    requires { length list.now ≤ 32 }
-    ensures is { result ≡ total_of list.now }
-    ensures small { result < 2 ^ 37 }
-{
-    let mut sum = 0;
-    for binding in list {
-        sum += binding.count as usize;
-    }
-    sum
-}
-
 impl Bindings {
     // A copy of a list, unless it is too long.
     pub fn of(list: &[DeviceBinding]) -> Option<Bindings>
         ensures { MatchOption result (32 < length list.now) (λ b. (length list.now ≤ 32) × (list_of b ≡ list.now)) }
     {
-        if list.len() > MAX_BINDINGS {
-            return None;
-        }
-        let mut rows = [NO_BINDING; MAX_BINDINGS];
-        for i in 0..list.len() {
-            rows[i] = list[i];
-        }
-        Some(Bindings {
-            rows,
-            length: list.len(),
-        })
-    }
-
-    fn list(&self) -> &[DeviceBinding]
-        ensures is { result.now ≡ list_of self.now }
-        ensures short { length result.now ≤ 32 }
-    {
-        let n = self.length;
-        if n < MAX_BINDINGS {
-            &self.rows[0..n]
-        } else {
-            &self.rows[0..MAX_BINDINGS]
-        }
+        let list = ArrayVec::try_from(list).ok()?;
+        Some(Bindings { list })
     }
 
     pub(crate) fn get(&self, i: usize) -> Option<DeviceBinding>
         ensures { result ≡ slice_get (list_of self.now) i }
     {
-        let list = self.list();
-        if i < list.len() { Some(list[i]) } else { None }
+        self.list.get(i).copied()
     }
 
     // How many descriptors of a kind there are.
@@ -105,7 +47,10 @@ impl Bindings {
         ensures is { result ≡ kind_count kind (list_of self.now) }
         ensures small { result < 2 ^ 37 }
     {
-        sum_of_kind(self.list(), kind)
+        self.list
+            .iter()
+            .map(|binding| u64::from(of_kind(binding, kind)))
+            .sum()
     }
 
     // How many descriptors there are.
@@ -113,7 +58,7 @@ impl Bindings {
         ensures is { result ≡ total_of (list_of self.now) }
         ensures small { result < 2 ^ 37 }
     {
-        sum_of_all(self.list())
+        self.list.iter().map(|binding| binding.count as usize).sum()
     }
 
     // How many of them stand before binding i.
@@ -121,11 +66,10 @@ impl Bindings {
         ensures is { result ≡ start_of (list_of self.now) i }
         ensures small { result < 2 ^ 37 }
     {
-        let list = self.list();
-        if i < list.len() {
-            sum_of_all(&list[0..i])
-        } else {
-            sum_of_all(list)
-        }
+        self.list
+            .iter()
+            .take(i)
+            .map(|binding| binding.count as usize)
+            .sum()
     }
 }

@@ -1,16 +1,13 @@
 // What the rows add up to.
-ghost use Rattle.std.specs.Prelude.{◌≡◌, ℕ, ◌+◌, ◌^◌, ◌<◌, ◌≤◌, false, cond, not, ◌&&◌, [], replicate, None, nat_lt};
-ghost use Rattle.conversion.specs.Counts.{count_of};
-ghost use Rattle.device.specs.Meaning.{binding_counts};
+ghost use Rattle.std.specs.Prelude.{◌≡◌, ℕ, ◌+◌, ◌^◌, ◌<◌, [], replicate, None, nat_lt};
 ghost use Rattle.std.specs.List.{slice_get};
-ghost use Rattle.conversion.specs.Counts.{counts_by};
+ghost use Rattle.conversion.specs.Counts.{count_of, counts_by};
 ghost use Rattle.rows.specs.Bindings.{kind_count, total_of, start_of, at_most};
-ghost use Rattle.rows.specs.Tables.{slot_at};
 ghost use Rattle.rows.specs.Pools.{live_pool};
-ghost use Rattle.rows.specs.Holdings.{names, is_named, is_free_layout_row, free_layout_row, bindings_at, set_at, in_row, sets_in, used_in, full_at};
+ghost use Rattle.rows.specs.Holdings.{names, is_of_pool, held_of, is_named, is_free_layout_row, free_layout_row, bindings_at, in_row, sets_in, used_in, full_at};
 
-use crate::bindings::{Bindings, NO_BINDINGS};
-use crate::holdings::{Holdings, LAYOUT_ROWS, SET_ROWS, SetRow};
+use crate::bindings::Bindings;
+use crate::holdings::{Holdings, LAYOUT_ROWS, SetRow};
 use crate::pools::PoolRow;
 use crate::slots::Slot;
 use crate::table::Table;
@@ -21,16 +18,19 @@ use conversion::kinds::{KINDS, Kind};
 fn is_of_layout(slot: Option<Slot<SetRow>>, layout: usize) -> bool
     ensures { result ≡ names layout slot }
 {
-    match slot {
-        Some(s) => s.value.layout == layout,
-        None => false,
-    }
+    slot.is_some_and(|set| set.value.layout == layout)
+}
+
+fn is_of_pool(slot: Option<Slot<SetRow>>, pool: u64) -> bool
+    ensures { result ≡ is_of_pool pool slot }
+{
+    slot.is_some_and(|set| set.value.pool == pool)
 }
 
 fn at_most(n: u64, most: u32) -> u32
     ensures { result ≡ at_most n most }
 {
-    if n > u64::from(most) { most } else { n as u32 }
+    n.min(u64::from(most)) as u32
 }
 
 impl Holdings {
@@ -42,7 +42,7 @@ impl Holdings {
     {
         Holdings {
             layouts: Table::new(),
-            bindings: [NO_BINDINGS; LAYOUT_ROWS],
+            bindings: Default::default(),
             pools: Table::new(),
             sets: Table::new(),
         }
@@ -52,12 +52,7 @@ impl Holdings {
     fn is_named(&self, layout: usize) -> bool
         ensures { result ≡ is_named self.now layout }
     {
-        for i in 0..SET_ROWS {
-            if is_of_layout(self.sets.slot(i), layout) {
-                return true;
-            }
-        }
-        false
+        self.sets.rows.iter().any(|row| is_of_layout(*row, layout))
     }
 
     fn is_free_layout_row(&self, j: usize) -> bool
@@ -70,12 +65,7 @@ impl Holdings {
     pub fn free_layout_row(&self) -> Option<usize>
         ensures { result ≡ free_layout_row self.now }
     {
-        for j in 0..LAYOUT_ROWS {
-            if self.is_free_layout_row(j) {
-                return Some(j);
-            }
-        }
-        None
+        (0..LAYOUT_ROWS).find(|&j| self.is_free_layout_row(j))
     }
 }
 
@@ -85,57 +75,40 @@ impl Holdings {
         ensures is { result ≡ kind_count kind (bindings_at self.now layout) }
         ensures small { result < 2 ^ 37 }
     {
-        if layout < LAYOUT_ROWS {
-            self.bindings[layout].count_of(kind)
-        } else {
-            0
-        }
+        self.bindings
+            .get(layout)
+            .map_or(0, |bindings| bindings.count_of(kind))
     }
 
-    // One for a set in the pool.
-    fn set_in(&self, i: usize, pool: u64) -> u64
-        ensures { result ≡ in_row pool (λ s. 1) (set_at self.now i) }
-    {
-        match self.sets.slot(i) {
-            Some(set) => if set.value.pool == pool { 1 } else { 0 },
-            None => 0,
-        }
-    }
-
-    // What the set in a row has of a kind, if it is in the pool.
-    fn used_by(&self, i: usize, pool: u64, kind: Kind) -> u64
-        ensures is { result ≡ in_row pool (λ s. kind_count kind s.bindings) (set_at self.now i) }
-        ensures small { result < 2 ^ 37 }
-    {
-        match self.sets.slot(i) {
-            Some(set) => if set.value.pool == pool {
-                self.kind_count(set.value.layout, kind)
-            } else {
-                0
-            },
-            None => 0,
-        }
-    }
-
+    // How many sets live in a pool.
     fn sets_in(&self, pool: u64) -> u64
         ensures { result ≡ sets_in self.now pool }
     {
-        let mut sum = 0;
-        for i in 0..SET_ROWS {
-            sum += self.set_in(i, pool);
-        }
-        sum
+        self.sets
+            .rows
+            .iter()
+            .filter(|row| is_of_pool(**row, pool))
+            .count() as u64
+    }
+
+    // What the set in a row has of a kind, if it lives in the pool.
+    fn used_by(&self, row: Option<Slot<SetRow>>, pool: u64, kind: Kind) -> u64
+        ensures is { result ≡ in_row pool (λ s. kind_count kind s.bindings) (held_of self.now.bindings row) }
+        ensures small { result < 2 ^ 37 }
+    {
+        row.filter(|set| set.value.pool == pool)
+            .map_or(0, |set| self.kind_count(set.value.layout, kind))
     }
 
     fn used_in(&self, pool: u64, kind: Kind) -> u64
         ensures is { result ≡ used_in self.now pool kind }
         ensures small { result < 2 ^ 47 }
     {
-        let mut sum = 0;
-        for i in 0..SET_ROWS {
-            sum += self.used_by(i, pool, kind);
-        }
-        sum
+        self.sets
+            .rows
+            .iter()
+            .map(|row| self.used_by(*row, pool, kind))
+            .sum()
     }
 
     fn lacks(&self, handle: u64, pool: &PoolRow, layout: usize, kind: Kind) -> bool
@@ -149,15 +122,10 @@ impl Holdings {
     pub fn is_full(&self, handle: u64, pool: &PoolRow, layout: usize) -> bool
         ensures { result ≡ full_at self.now handle (live_pool pool.now) layout }
     {
-        if u64::from(pool.most) <= self.sets_in(handle) {
-            return true;
-        }
-        for kind in KINDS {
-            if self.lacks(handle, pool, layout, kind) {
-                return true;
-            }
-        }
-        false
+        u64::from(pool.most) <= self.sets_in(handle)
+            || KINDS
+                .iter()
+                .any(|&kind| self.lacks(handle, pool, layout, kind))
     }
 }
 
@@ -167,11 +135,9 @@ impl Holdings {
         ensures is { result ≡ total_of (bindings_at self.now layout) }
         ensures small { result < 2 ^ 37 }
     {
-        if layout < LAYOUT_ROWS {
-            self.bindings[layout].total()
-        } else {
-            0
-        }
+        self.bindings
+            .get(layout)
+            .map_or(0, |bindings| bindings.total())
     }
 
     // How many of them stand before binding i.
@@ -179,58 +145,22 @@ impl Holdings {
         ensures is { result ≡ start_of (bindings_at self.now layout) i }
         ensures small { result < 2 ^ 37 }
     {
-        if layout < LAYOUT_ROWS {
-            self.bindings[layout].start(i)
-        } else {
-            0
-        }
+        self.bindings
+            .get(layout)
+            .map_or(0, |bindings| bindings.start(i))
     }
 
     // Binding i of the layout in a row.
     pub fn binding(&self, layout: usize, i: usize) -> Option<DeviceBinding>
         ensures { result ≡ slice_get (bindings_at self.now layout) i }
     {
-        if layout < LAYOUT_ROWS {
-            self.bindings[layout].get(i)
-        } else {
-            None
-        }
+        self.bindings.get(layout)?.get(i)
     }
 
     // Its counts by kind, held to some others, so that they fit.
     pub fn counts(&self, layout: usize, most: &DescriptorCounts) -> DescriptorCounts
         ensures { result ≡ counts_by (λ k. at_most (kind_count k (bindings_at self.now layout)) (count_of most.now k)) }
     {
-        DescriptorCounts {
-            sampler: at_most(self.kind_count(layout, Kind::Sampler), most.sampler),
-            sampled_image: at_most(
-                self.kind_count(layout, Kind::SampledImage),
-                most.sampled_image,
-            ),
-            storage_image: at_most(
-                self.kind_count(layout, Kind::StorageImage),
-                most.storage_image,
-            ),
-            uniform_buffer: at_most(
-                self.kind_count(layout, Kind::UniformBuffer),
-                most.uniform_buffer,
-            ),
-            uniform_buffer_dynamic: at_most(
-                self.kind_count(layout, Kind::UniformBufferDynamic),
-                most.uniform_buffer_dynamic,
-            ),
-            storage_buffer: at_most(
-                self.kind_count(layout, Kind::StorageBuffer),
-                most.storage_buffer,
-            ),
-            storage_buffer_dynamic: at_most(
-                self.kind_count(layout, Kind::StorageBufferDynamic),
-                most.storage_buffer_dynamic,
-            ),
-            acceleration_structure: at_most(
-                self.kind_count(layout, Kind::AccelerationStructure),
-                most.acceleration_structure,
-            ),
-        }
+        DescriptorCounts::by(|kind| at_most(self.kind_count(layout, kind), most.of_kind(kind)))
     }
 }

@@ -1,12 +1,12 @@
 // A pool in its row.
 ghost use Rattle.std.specs.Prelude.{◌≡◌, false, not, ◌&&◌, if◌then◌else◌, Some, None};
 ghost use Rattle.std.specs.Option.{option_map};
-ghost use Rattle.device.specs.Meaning.{same_counts, differs, size_of, size_counts, remembering, after_bind};
+ghost use Rattle.device.specs.Meaning.{differs, size_of, size_counts, remembering, after_bind};
 ghost use Rattle.device.specs.Calls.{invalid_sizes, invalid_pool, new_pool};
 ghost use Rattle.rows.specs.Pools.{live_pool};
 
 use conversion::counts::DescriptorCounts;
-use conversion::kinds::{KINDS, Kind};
+use conversion::kinds::Kind;
 use device::records::PoolSize;
 use device::validity::is_invalid_pool;
 
@@ -38,54 +38,29 @@ pub fn is_unfit(flags: u32, pool: &PoolRow) -> bool
     is_after_bind(flags) && !pool.updatable
 }
 
-// How many of a kind there are, where no type stands twice.
+// How many of a kind there are. No type stands twice.
 fn size_of(sizes: &[PoolSize], kind: Kind) -> u32
     requires { invalid_sizes sizes.now ≡ false }
     ensures { result ≡ size_of kind sizes.now }
 {
-    let mut sum = 0;
-    for size in sizes {
-        if size.descriptor_type == u32::from(kind) {
-            sum += size.count;
-        }
-    }
-    sum
+    let number = u32::from(kind);
+    sizes
+        .iter()
+        .find(|size| size.descriptor_type == number)
+        .map_or(0, |size| size.count)
 }
 
 fn size_counts(sizes: &[PoolSize]) -> DescriptorCounts
     requires { invalid_sizes sizes.now ≡ false }
     ensures { result ≡ size_counts sizes.now }
 {
-    DescriptorCounts {
-        sampler: size_of(sizes, Kind::Sampler),
-        sampled_image: size_of(sizes, Kind::SampledImage),
-        storage_image: size_of(sizes, Kind::StorageImage),
-        uniform_buffer: size_of(sizes, Kind::UniformBuffer),
-        uniform_buffer_dynamic: size_of(sizes, Kind::UniformBufferDynamic),
-        storage_buffer: size_of(sizes, Kind::StorageBuffer),
-        storage_buffer_dynamic: size_of(sizes, Kind::StorageBufferDynamic),
-        acceleration_structure: size_of(sizes, Kind::AccelerationStructure),
-    }
-}
-
-fn same_counts(a: &DescriptorCounts, b: &DescriptorCounts) -> bool
-    ensures { result ≡ same_counts a.now b.now }
-{
-    for kind in KINDS {
-        if a.of_kind(kind) != b.of_kind(kind) {
-            return false;
-        }
-    }
-    true
+    DescriptorCounts::by(|kind| size_of(sizes, kind))
 }
 
 fn is_other(first: Option<DescriptorCounts>, counts: &DescriptorCounts) -> bool
     ensures { result ≡ differs first counts.now }
 {
-    match first {
-        Some(c) => !same_counts(&c, counts),
-        None => false,
-    }
+    first.is_some_and(|c| c != *counts)
 }
 
 impl PoolRow {
@@ -110,11 +85,9 @@ impl PoolRow {
         ensures { live_pool result ≡ remembering (live_pool self) counts.now }
     {
         PoolRow {
-            most: self.most,
-            sizes: self.sizes,
-            updatable: self.updatable,
-            first: Some(self.first.unwrap_or(*counts)),
+            first: self.first.or(Some(*counts)),
             differed: self.differed || is_other(self.first, counts),
+            ..self
         }
     }
 }

@@ -1,3 +1,2 @@
 pub mod Sums
 pub mod Placed
-pub mod Gaps

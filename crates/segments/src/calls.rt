@@ -28,7 +28,7 @@ impl<T: Copy, const S: usize> Segments<T, S> {
     pub fn length(&self, i: usize) -> usize
         ensures { result ≡ length_at self.now i }
     {
-        if i < S { self.lengths[i] } else { 0 }
+        self.lengths.get(i).copied().unwrap_or(0)
     }
 
     // Where segment i begins; segment S would begin where all end.
@@ -36,11 +36,7 @@ impl<T: Copy, const S: usize> Segments<T, S> {
         requires { i ≤ S }
         ensures { result ≡ start_at self.now i }
     {
-        let mut start = 0;
-        for k in 0..i {
-            start += self.lengths[k];
-        }
-        start
+        self.lengths[..i].iter().sum()
     }
 
     pub fn used(&self) -> usize
@@ -72,13 +68,11 @@ impl<T: Copy, const S: usize> Segments<T, S> {
     pub fn write(&mut self, i: usize, j: usize, x: T) -> bool
         ensures { Written self.old i j x result self.new }
     {
-        match self.place(i, j) {
-            Some(place) => {
-                self.records[place] = Some(x);
-                true
-            }
-            None => false,
-        }
+        let Some(place) = self.place(i, j) else {
+            return false;
+        };
+        self.records[place] = Some(x);
+        true
     }
 
     fn can_make(&self, i: usize, length: usize) -> bool

@@ -8,9 +8,7 @@ pub(crate) fn raise<T: Copy>(records: &mut [Option<T>], start: usize, end: usize
     ensures { Raised records.old start end by records.new }
 {
     records.copy_within(start..end, start + by);
-    for k in start..start + by {
-        records[k] = None;
-    }
+    records[start..start + by].fill(None);
 }
 
 // Takes the `by` records at `start` away, for which those up to `end` go down.

@@ -1,16 +1,20 @@
-use Rattle.std.proofs.Common.{sym, arith}
+use Rattle.std.proofs.Common.{◌<◌, ◌^◌, take, sum, rules, arith}
+use Rattle.std.proofs.iter.runs.Made.{chains}
 use Rattle.segments.specs.Places.{length_in}
-use Rattle.segments.proofs.Sums.{sum_none, sum_more, sum_within}
+use Rattle.segments.proofs.Sums.{sum-take, sum_up_to}
 use Rattle.segments.proofs.Segments.start.Goals as goal
 
-pub loop-k-init : goal.loop-k-init
-loop-k-init g c = sym (sum_none (length_in c.args.self.now.lengths))
+pub sum-requires-clause-fits : goal.sum-requires-clause-fits
+sum-requires-clause-fits g c =
+    let ls = c.args.self.now.lengths in
+    let is = sum-take ls c.args.i (omega arith) in
+    let up = sum_up_to (length_in ls) c.args.i g.row.S c.requires in
+    let fits = c.args.self.now.fits in
+    let small : sum (take c.args.i ls) < 2 ^ 64 = omega arith in
+    search (rules, chains)
 
-pub overflow_add-start : goal.overflow_add-start
-overflow_add-start g c =
-    let w = sum_within (length_in c.args.self.now.lengths) c.loop-k.k g.row.S (omega arith) in
-    let f = c.args.self.now.fits in
-    omega arith
-
-pub loop-k-preserved : goal.loop-k-preserved
-loop-k-preserved g c = omega (arith, sum_more (length_in c.args.self.now.lengths) c.loop-k.k)
+pub returns : goal.returns
+returns g c =
+    let ls = c.args.self.now.lengths in
+    let is = sum-take ls c.args.i (omega arith) in
+    search (rules, chains)

@@ -21,6 +21,9 @@ offset_bounds-self-place c = let lt = free_below c.args.self.now.holdings c.in_o
 pub bounds-self-place : goal.bounds-self-place
 bounds-self-place c = free_below c.args.self.now.holdings c.in_ok-place.field-0.place.row c.in_ok-place.ensures.row
 
+pub listed : goal.listed
+listed c = omega (arith, free_below c.args.self.now.holdings c.in_ok-place.field-0.place.row c.in_ok-place.ensures.row, c.args.self.now.holdings.whole)
+
 pub invariant_of-self-2 : goal.invariant_of-self-2
 invariant_of-self-2 c =
     let d = c.args.self.now in

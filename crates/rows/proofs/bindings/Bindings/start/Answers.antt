@@ -1,13 +1,16 @@
-use Rattle.std.proofs.Common.{sym, ap, ◌∙◌, arith}
-use Rattle.std.proofs.lemmas.List.{take_all}
-use Rattle.rows.specs.Bindings.{total_of, start_of}
+use Rattle.std.proofs.Common.{◌≤◌, ◌<◌, ◌^◌, length, sum_by, ap, rules, arith}
+use Rattle.std.proofs.iter.runs.Made.{chains}
+use Rattle.rows.proofs.Figures.{held_to, sum_by-held_to}
 use Rattle.rows.proofs.bindings.Bindings.start.Goals as goal
 
-pub returns-else-i-list : goal.returns-else-i-list
-returns-else-i-list c =
-    record {
-      is = c.sum_of_all-else-i-list.ensures.is
-          ∙ (ap total_of (sym (take_all c.args.i c.list-list.result.now (omega arith)))
-          ∙ ap (λ l. start_of l c.args.i) c.list-list.ensures.is);
-      small = c.sum_of_all-else-i-list.ensures.small;
-    }
+pub sum-requires-clause-fits : goal.sum-requires-clause-fits
+sum-requires-clause-fits c =
+    let list = c.args.self.now.list.items in
+    let small : sum_by (held_to 4294967295 (λ b. b.count)) list < 2 ^ 64 = omega (arith, sum_by-held_to 4294967295 (λ b. b.count) list, ap length c.deref.ensures.0, c.deref.ensures.1) in
+    search (rules, chains)
+
+pub returns-clause-small : goal.returns-clause-small
+returns-clause-small c =
+    let list = c.args.self.now.list.items in
+    let part : c.sum.result ≤ sum_by (held_to 4294967295 (λ b. b.count)) list = search (rules, chains) in
+    omega (arith, sum_by-held_to 4294967295 (λ b. b.count) list, ap length c.deref.ensures.0, c.deref.ensures.1)

@@ -1,6 +1,11 @@
-use Rattle.std.proofs.Common.{refl}
-use Rattle.rows.proofs.Figures.{no_list}
+use Rattle.std.proofs.Common.{ap, arith}
+use native.Mathlib.Decide.{dec_lt}
+use Rattle.std.proofs.lemmas.List.{get_or_past}
+use Rattle.rows.specs.Bindings.{list_of}
+use Rattle.rows.specs.Holdings.{no_bindings}
 use Rattle.rows.proofs.holdings.Holdings.new.Goals as goal
 
-pub returns : goal.returns
-returns c = record { layouts = c.new.ensures; bindings = λ j. no_list _ 64 j refl; pools = c.new-2.ensures; sets = c.new-3.ensures }
+pub returns-clause-bindings : goal.returns-clause-bindings
+returns-clause-bindings c j =
+    let rows = c.default.ensures in
+    elim (dec_lt j 64) [ yes l ↦ rows.at j no_bindings l | no g ↦ ap list_of (get_or_past c.default.result j no_bindings (omega (arith, rows.long))) ]

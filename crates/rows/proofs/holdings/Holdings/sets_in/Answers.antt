@@ -1,20 +1,21 @@
-use Rattle.std.proofs.Common.{◌≡◌, sym, ap, ◌∙◌, arith}
-use Rattle.device.specs.Meaning.{sum_below}
-use Rattle.device.proofs.Below.{below_start, below_next}
-use Rattle.rows.specs.Holdings.{in_row, set_at}
-use Rattle.rows.proofs.Figures.{one_at_most}
+use Rattle.std.proofs.Common.{◌≡◌, ℕ, cond, List, Some, None, Option, filter, length, refl, ◌∙◌, rules, tests}
+use Rattle.std.proofs.lemmas.Iterator.{YieldsList-from_slice}
+use Rattle.std.proofs.lemmas.Iterator.Consumers.{YieldsList-at, YieldsList-from_filter, count_from_yields_List}
+use Rattle.rows.specs.declared.slots.Slot.{Slot}
+use Rattle.rows.specs.declared.bindings.Bindings.{Bindings}
+use Rattle.rows.specs.declared.holdings.SetRow.{SetRow}
+use Rattle.rows.specs.Holdings.{is_of_pool, held_of, in_row}
+use Rattle.rows.proofs.Figures.{count-rows}
 use Rattle.rows.proofs.holdings.Holdings.sets_in.Goals as goal
 
-pub loop-i-init : goal.loop-i-init
-loop-i-init c = (sym (below_start (λ i. in_row c.args.pool (λ s. 1) (set_at c.args.self.now i))), omega arith)
-
-pub loop-i-preserved : goal.loop-i-preserved
-loop-i-preserved c =
-    let more = below_next c.loop-i.i (λ i. in_row c.args.pool (λ s. 1) (set_at c.args.self.now i)) in
-    let one = one_at_most c.args.pool (set_at c.args.self.now c.loop-i.i) in
-    (omega (arith, more, c.set_in-sum.ensures, c.loop-i.invariant.0), omega (arith, one, c.set_in-sum.ensures, c.loop-i.invariant.1))
+one : (bs : List Bindings) (p : ℕ) (o : Option (Slot SetRow)) → cond (is_of_pool p o) 1 0 ≡ in_row p (λ s. 1) (held_of bs o)
+one bs p None = refl
+one bs p (Some s) = refl
 
 pub returns : goal.returns
 returns c =
-    let all : c.loop-i.i ≡ 1024 = omega arith in
-    c.loop-i.invariant.0 ∙ ap (λ n. sum_below n (λ i. in_row c.args.pool (λ s. 1) (set_at c.args.self.now i))) all
+    let d = c.args.self.now in
+    let p = c.args.pool in
+    let road = YieldsList-at c.filter.ensures.source (YieldsList-from_slice d.sets.rows (cc)) in
+    let counted : c.count.result ≡ length (filter (is_of_pool p) d.sets.rows) = count_from_yields_List c.filter.result c.count.result c.count.ensures.ran (YieldsList-from_filter _ (is_of_pool p) road c.filter.ensures.closure (λ x b q k. search (rules, tests))) in
+    counted ∙ count-rows (is_of_pool p) (λ o. in_row p (λ s. 1) (held_of d.bindings o)) (one d.bindings p) d.sets.rows None 1024 d.sets.whole

@@ -1,22 +1,28 @@
-use Rattle.std.proofs.Common.{◌≡◌, sym, ap, ◌∙◌, arith}
-use Rattle.device.specs.Meaning.{sum_below}
-use Rattle.device.proofs.Below.{below_start, below_next}
+use Rattle.std.proofs.Common.{◌≡◌, ◌*◌, ◌≤◌, ℕ, sum_by, None, Option, ◌∙◌, rules, arith}
+use Rattle.std.proofs.iter.runs.Made.{chains}
+use Rattle.conversion.specs.declared.kinds.Kind.{Kind}
+use Rattle.rows.specs.declared.slots.Slot.{Slot}
+use Rattle.rows.specs.declared.holdings.Holdings.{Holdings}
+use Rattle.rows.specs.declared.holdings.SetRow.{SetRow}
 use Rattle.rows.specs.Bindings.{kind_count}
-use Rattle.rows.specs.Holdings.{in_row, set_at}
+use Rattle.rows.specs.Holdings.{held_of, in_row}
+use Rattle.rows.proofs.Figures.{held_to, sum_by-held_to, sum_by-rows}
 use Rattle.rows.proofs.holdings.Holdings.used_in.Goals as goal
 
-pub loop-i-init : goal.loop-i-init
-loop-i-init c = (sym (below_start (λ i. in_row c.args.pool (λ s. kind_count c.args.kind s.bindings) (set_at c.args.self.now i))), omega arith)
+abbrev used : Holdings → ℕ → Kind → Option (Slot SetRow) → ℕ
+used d p k o = in_row p (λ s. kind_count k s.bindings) (held_of d.bindings o)
 
-pub loop-i-preserved : goal.loop-i-preserved
-loop-i-preserved c =
-    let more = below_next c.loop-i.i (λ i. in_row c.args.pool (λ s. kind_count c.args.kind s.bindings) (set_at c.args.self.now i)) in
-    (omega (arith, more, c.used_by-sum.ensures.is, c.loop-i.invariant.0), omega (arith, c.used_by-sum.ensures.small, c.loop-i.invariant.1))
+-- each set has fewer than 2 ^ 37
+bound : (d : Holdings) (p : ℕ) (k : Kind) → sum_by (held_to 137438953471 (used d p k)) d.sets.rows ≤ 1024 * 137438953471
+bound d p k = omega (arith, sum_by-held_to 137438953471 (used d p k) d.sets.rows, d.sets.whole)
+
+pub sum-requires-clause-fits : goal.sum-requires-clause-fits
+sum-requires-clause-fits c = let few = bound c.args.self.now c.args.pool c.args.kind in search (rules, chains)
 
 pub returns : goal.returns
 returns c =
-    let all : c.loop-i.i ≡ 1024 = omega arith in
-    record {
-      is = c.loop-i.invariant.0 ∙ ap (λ n. sum_below n (λ i. in_row c.args.pool (λ s. kind_count c.args.kind s.bindings) (set_at c.args.self.now i))) all;
-      small = omega (arith, c.loop-i.invariant.1);
-    }
+    let d = c.args.self.now in
+    let f = used d c.args.pool c.args.kind in
+    let is : c.sum.result ≡ sum_by f d.sets.rows = search (rules, chains) in
+    let held : c.sum.result ≡ sum_by (held_to 137438953471 f) d.sets.rows = search (rules, chains) in
+    record { is = is ∙ sum_by-rows f d.sets.rows None 1024 d.sets.whole; small = omega (arith, held, bound d c.args.pool c.args.kind) }

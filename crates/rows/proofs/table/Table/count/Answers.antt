@@ -1,21 +1,18 @@
-use Rattle.std.proofs.Common.{◌≡◌, sym, ap, ◌∙◌, arith}
-use Rattle.device.specs.Meaning.{sum_below}
-use Rattle.device.proofs.Below.{below_start, below_next}
-use Rattle.rows.specs.Tables.{one_if_used, slot_at}
-use Rattle.rows.proofs.Found.{used_at_most}
+use Rattle.std.proofs.Common.{◌≡◌, cond, is_some, Some, None, Option, filter, length, refl, ◌∙◌, rules, tests}
+use Rattle.std.proofs.lemmas.Iterator.{YieldsList-from_slice}
+use Rattle.std.proofs.lemmas.Iterator.Consumers.{YieldsList-at, YieldsList-from_filter, count_from_yields_List}
+use Rattle.rows.specs.declared.slots.Slot.{Slot}
+use Rattle.rows.specs.Tables.{one_if_used}
+use Rattle.rows.proofs.Figures.{count-rows}
 use Rattle.rows.proofs.table.Table.count.Goals as goal
 
-pub loop-i-init : goal.loop-i-init
-loop-i-init g c = (sym (below_start (λ i. one_if_used (slot_at c.args.self.now i))), omega arith)
-
-pub loop-i-preserved : goal.loop-i-preserved
-loop-i-preserved g c =
-    let more = below_next c.loop-i.i (λ i. one_if_used (slot_at c.args.self.now i)) in
-    let here = c.one_if_used-sum.ensures ∙ ap one_if_used c.slot.ensures in
-    let one = used_at_most (slot_at c.args.self.now c.loop-i.i) in
-    (omega (arith, more, here, c.loop-i.invariant.0), omega (arith, one, here, c.loop-i.invariant.1))
+one : {T : Type 0} (o : Option (Slot T)) → cond (is_some o) 1 0 ≡ one_if_used o
+one None = refl
+one (Some s) = refl
 
 pub returns : goal.returns
 returns g c =
-    let all : c.loop-i.i ≡ g.row.N = omega arith in
-    c.loop-i.invariant.0 ∙ ap (λ n. sum_below n (λ i. one_if_used (slot_at c.args.self.now i))) all
+    let t = c.args.self.now in
+    let road = YieldsList-at c.filter.ensures.source (YieldsList-from_slice t.rows (cc)) in
+    let counted : c.count.result ≡ length (filter is_some t.rows) = count_from_yields_List c.filter.result c.count.result c.count.ensures.ran (YieldsList-from_filter _ is_some road c.filter.ensures.closure (λ x b q k. search (rules, tests))) in
+    counted ∙ count-rows is_some one_if_used one t.rows None g.row.N t.whole

@@ -1,19 +1,13 @@
-use Rattle.std.proofs.Common.{sym, ap, ◌∙◌, arith}
-use Rattle.conversion.proofs.Searches.{first_next}
+use Rattle.std.proofs.Common.{◌≡◌, None, rules, tests, ◌∙◌}
+use Rattle.std.proofs.lemmas.Iterator.{YieldsList-from_slice}
+use Rattle.std.proofs.lemmas.Iterator.Search.{position_from_yields_List}
+use Rattle.std.specs.List.{position}
 use Rattle.rows.specs.Slots.{is_handle}
-use Rattle.rows.specs.Tables.{slot_at}
-use Rattle.rows.proofs.Found.{row_here, row_end}
+use Rattle.rows.proofs.Found.{position-row}
 use Rattle.rows.proofs.table.Table.row_of.Goals as goal
 
-pub returns-then-is_handle : goal.returns-then-is_handle
-returns-then-is_handle g c =
-    let read = ap (is_handle c.args.handle) (sym c.slot.ensures) in
-    sym (row_here (λ i. is_handle c.args.handle (slot_at c.args.self.now i)) c.loop-i.i g.row.N (omega arith) c.loop-i.invariant (read ∙ sym c.if-is_handle.ensures))
-
-pub loop-i-preserved : goal.loop-i-preserved
-loop-i-preserved g c =
-    let read = ap (is_handle c.args.handle) (sym c.slot.ensures) in
-    first_next (λ i. is_handle c.args.handle (slot_at c.args.self.now i)) c.loop-i.i c.loop-i.invariant (read ∙ sym c.if-is_handle.ensures)
-
 pub returns : goal.returns
-returns g c = sym (row_end (λ i. is_handle c.args.handle (slot_at c.args.self.now i)) c.loop-i.i g.row.N (omega arith) c.loop-i.invariant)
+returns g c =
+    let t = c.args.self.now in
+    let found : c.position.result ≡ position (is_handle c.args.handle) t.rows = position_from_yields_List (is_handle c.args.handle) _ _ c.position.result c.position.ensures.ran (YieldsList-from_slice t.rows (cc)) (λ x b q k. search (rules, tests)) in
+    found ∙ position-row (is_handle c.args.handle) t.rows None g.row.N t.whole

@@ -1,18 +1,12 @@
-use Rattle.std.proofs.Common.{not, is_some, sym, ap, ◌∙◌, arith}
-use Rattle.conversion.proofs.Searches.{first_next}
-use Rattle.rows.specs.Tables.{slot_at}
-use Rattle.rows.proofs.Found.{row_here, row_end}
+use Rattle.std.proofs.Common.{◌≡◌, not, is_some, None, rules, tests, ◌∙◌}
+use Rattle.std.proofs.lemmas.Iterator.{YieldsList-from_slice}
+use Rattle.std.proofs.lemmas.Iterator.Search.{position_from_yields_List}
+use Rattle.std.specs.List.{position}
+use Rattle.rows.proofs.Found.{position-row}
 use Rattle.rows.proofs.table.Table.unused_row.Goals as goal
 
-pub returns-then-is_none : goal.returns-then-is_none
-returns-then-is_none g c =
-    let read = ap (λ o. not (is_some o)) (sym c.slot.ensures) in
-    sym (row_here (λ i. not (is_some (slot_at c.args.self.now i))) c.loop-i.i g.row.N (omega arith) c.loop-i.invariant (read ∙ ap not c.if-is_none.ensures))
-
-pub loop-i-preserved : goal.loop-i-preserved
-loop-i-preserved g c =
-    let read = ap (λ o. not (is_some o)) (sym c.slot.ensures) in
-    first_next (λ i. not (is_some (slot_at c.args.self.now i))) c.loop-i.i c.loop-i.invariant (read ∙ ap not c.if-is_none.ensures)
-
 pub returns : goal.returns
-returns g c = sym (row_end (λ i. not (is_some (slot_at c.args.self.now i))) c.loop-i.i g.row.N (omega arith) c.loop-i.invariant)
+returns g c =
+    let t = c.args.self.now in
+    let found : c.position.result ≡ position (λ o. not (is_some o)) t.rows = position_from_yields_List (λ o. not (is_some o)) _ _ c.position.result c.position.ensures.ran (YieldsList-from_slice t.rows (cc)) (λ x b q k. search (rules, tests)) in
+    found ∙ position-row (λ o. not (is_some o)) t.rows None g.row.N t.whole
