@@ -1,9 +1,7 @@
 // Sample resources, and the writes that put one into element 0 of each binding of a set.
 use conversion::bindings::DeviceBinding;
 use conversion::kinds::Kind;
-use device::records::{
-    AccelerationRecord, BufferRecord, ImageRecord, RecordList, Records, Write,
-};
+use device::records::{AccelerationRecord, BufferRecord, ImageRecord, RecordList, Records, Write};
 use std::alloc::{AllocError, Global};
 
 // The handle of the resource for binding 0; the others count up from it.
