@@ -49,7 +49,7 @@ pub const KINDS: [Kind; 8] = [
 const TYPE_NUMBERS: [u32; 8] = [0, 2, 3, 6, 8, 7, 9, 1000150000];
 
 impl Kind {
-    // The place in key order, from 0.
+    // The place in key order, from 0. A method, since `usize::from` would not say which of a kind's two numbers it is.
     pub fn place(self) -> usize
         ensures is { result ≡ place self }
         ensures bound { result < 8 }
@@ -107,6 +107,7 @@ impl TryFrom<u32> for Kind {
 }
 
 // The type number of what an entry asks for; an external texture has none.
+// A function, as in wgpu-hal, since its conversions keep their names here and in results and stages.
 pub fn map_binding_type(kind: EntryKind) -> Option<u32>
     ensures { result ≡ type_of kind }
 {

@@ -5,7 +5,7 @@ ghost use Rattle.script.specs.Names.{kind_named, stage_named};
 
 use conversion::kinds::{EntryKind, Kind};
 
-// In key order.
+// In key order, beside `KINDS` and in step with it: places and names are looked up both ways.
 pub const KIND_NAMES: [&str; 8] = [
     "sampler",
     "sampled-image",
@@ -44,6 +44,7 @@ fn place_in(names: &[&str], word: &[u8]) -> Option<usize>
     names.iter().position(|name| spells(word, name.as_bytes()))
 }
 
+// A function, since no `TryFrom` between two types of other crates can stand here.
 pub fn kind_named(word: &[u8]) -> Option<EntryKind>
     ensures { result ≡ kind_named word.now }
 {

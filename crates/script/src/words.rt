@@ -6,7 +6,7 @@ ghost use Rattle.script.specs.Words.{is_blank, words, words_left, spelled, Word,
 
 const MAX_NUMBER: u64 = 0xffff_ffff;
 
-// A part of a text, from `start` to before `end`.
+// A part of a text, from `start` to before `end`. Its ends and no slice: a name is cut out of the line as text, which bytes need not be.
 #[derive(Clone, Copy)]
 pub struct Span {
     pub start: usize,

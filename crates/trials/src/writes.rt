@@ -7,43 +7,26 @@ use device::records::{AccelerationRecord, BufferRecord, Content, ImageRecord, Re
 use std::process::Abort;
 use std::test::*;
 
-// The type number in element 0 of a binding of set 3, and the numbers of its record.
-fn image_at(device: &CountingDevice, binding: u32) -> Option<(u32, u64, u64, u32)> {
+// The type number in element 0 of a binding of set 3, and its record.
+fn element_at(device: &CountingDevice, binding: u32) -> Option<(u32, Content)> {
     let descriptor = device.read_back(3, binding, 0)?;
-    match descriptor.content {
-        Content::Image(image) => {
-            Some((
-                u32::from(descriptor.kind),
-                image.sampler,
-                image.view,
-                image.layout,
-            ))
-        }
-        _ => None,
-    }
+    Some((u32::from(descriptor.kind), descriptor.content))
 }
 
-fn buffer_at(device: &CountingDevice, binding: u32) -> Option<(u32, u64, u64, u64)> {
-    let descriptor = device.read_back(3, binding, 0)?;
-    match descriptor.content {
-        Content::Buffer(part) => {
-            Some((
-                u32::from(descriptor.kind),
-                part.buffer,
-                part.offset,
-                part.range,
-            ))
-        }
-        _ => None,
-    }
+fn image(sampler: u64, view: u64, layout: u32) -> Content {
+    Content::Image(ImageRecord {
+        sampler,
+        view,
+        layout,
+    })
 }
 
-fn acceleration_at(device: &CountingDevice, binding: u32) -> Option<(u32, u64)> {
-    let descriptor = device.read_back(3, binding, 0)?;
-    match descriptor.content {
-        Content::Acceleration(structure) => Some((u32::from(descriptor.kind), structure.handle)),
-        _ => None,
-    }
+fn buffer(buffer: u64, offset: u64, range: u64) -> Content {
+    Content::Buffer(BufferRecord {
+        buffer,
+        offset,
+        range,
+    })
 }
 
 // Layout 1 has a binding of each kind, in key order; that of the sampled image has two elements. Set 3 is in pool 2.
@@ -147,21 +130,24 @@ fn each_kind(rt: HostRuntime) -> Result<(), Fail> {
         },
     );
     assert!(rt; !trial.device.is_marked());
-    for (binding, due) in [(0, (0, 30, 0, 0)), (1, (2, 0, 31, 5)), (2, (3, 0, 32, 1))] {
-        assert_eq!(rt; image_at(&trial.device, binding), Some(due));
-    }
     for (binding, due) in [
-        (3, (6, 40, 1, 50)),
-        (4, (8, 41, 2, 51)),
-        (5, (7, 42, 3, 52)),
-        (6, (9, 43, 4, u64::MAX)),
+        (0, (0, image(30, 0, 0))),
+        (1, (2, image(0, 31, 5))),
+        (2, (3, image(0, 32, 1))),
+        (3, (6, buffer(40, 1, 50))),
+        (4, (8, buffer(41, 2, 51))),
+        (5, (7, buffer(42, 3, 52))),
+        (6, (9, buffer(43, 4, u64::MAX))),
+        (
+            7,
+            (
+                1000150000,
+                Content::Acceleration(AccelerationRecord { handle: u64::MAX }),
+            ),
+        ),
     ] {
-        assert_eq!(rt; buffer_at(&trial.device, binding), Some(due));
+        assert_eq!(rt; element_at(&trial.device, binding), Some(due));
     }
-    assert_eq!(rt;
-        acceleration_at(&trial.device, 7),
-        Some((1000150000, u64::MAX))
-    );
     assert!(rt; trial.device.read_back(3, 1, 1).is_none());
     assert!(rt; trial.device.read_back(3, 8, 0).is_none());
     assert!(rt; trial.device.read_back(3, 7, 1).is_none());
