@@ -79,12 +79,11 @@ impl CountingDevice {
     ) -> Result<LayoutPlace, DeviceFault>
         ensures { MatchResult result (LayoutPlaced self.now bindings.now) (λ fault. answered Layout (fixed_layout self.now bindings.now) ≡ Err fault) }
     {
-        let Some(bindings) = Bindings::of(bindings) else {
-            return Err(Obstacle::NoHostMemory.to(DeviceCall::Layout));
-        };
-        let Some(row) = self.holdings.free_layout_row() else {
-            return Err(Obstacle::NoHostMemory.to(DeviceCall::Layout));
-        };
+        let bindings = Bindings::of(bindings).ok_or(Obstacle::NoHostMemory.to(DeviceCall::Layout))?;
+        let row = self
+            .holdings
+            .free_layout_row()
+            .ok_or(Obstacle::NoHostMemory.to(DeviceCall::Layout))?;
         let handle = self.next_handle(DeviceCall::Layout)?;
         Ok(LayoutPlace {
             place: Place { row, handle },
@@ -96,9 +95,11 @@ impl CountingDevice {
     pub(crate) fn pool_place(&self) -> Result<Place, DeviceFault>
         ensures { MatchResult result (PoolPlaced self.now) (λ fault. answered Pool (fixed_pool self.now) ≡ Err fault) }
     {
-        let Some(row) = self.holdings.pools.unused_row() else {
-            return Err(Obstacle::NoHostMemory.to(DeviceCall::Pool));
-        };
+        let row = self
+            .holdings
+            .pools
+            .unused_row()
+            .ok_or(Obstacle::NoHostMemory.to(DeviceCall::Pool))?;
         let handle = self.next_handle(DeviceCall::Pool)?;
         Ok(Place { row, handle })
     }
@@ -107,9 +108,11 @@ impl CountingDevice {
     pub(crate) fn set_place(&self, total: usize) -> Result<Place, DeviceFault>
         ensures { MatchResult result (SetPlaced self.now total) (λ fault. answered Set (fixed_set self.now total) ≡ Err fault) }
     {
-        let Some(row) = self.holdings.sets.unused_row() else {
-            return Err(Obstacle::NoHostMemory.to(DeviceCall::Set));
-        };
+        let row = self
+            .holdings
+            .sets
+            .unused_row()
+            .ok_or(Obstacle::NoHostMemory.to(DeviceCall::Set))?;
         let handle = self.next_handle(DeviceCall::Set)?;
         if total > self.records.size() - self.records.used() {
             return Err(Obstacle::NoDeviceMemory.to(DeviceCall::Set));
