@@ -30,6 +30,7 @@ impl Write {
     fn lies_in(&self, records: Records<'_>) -> bool
         ensures { result ≡ lies (lists_in records.entry) self.now (kind_of_type self.now.descriptor_type) }
     {
+        // a `match`, since of `is_ok_and` the proof did not close
         match Kind::try_from(self.descriptor_type) {
             Ok(kind) => {
                 let length = records.length_of(RecordList::from(kind));
