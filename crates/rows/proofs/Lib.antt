@@ -2,5 +2,4 @@ pub mod Truths
 pub mod Found
 pub mod Sizes
 pub mod Figures
-pub mod Counts
 pub mod Meant

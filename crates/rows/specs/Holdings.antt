@@ -1,7 +1,7 @@
 -- What the rows of a device hold, and what they add up to. Assumes nothing.
 use Rattle.std.specs.Prelude.{ℕ, ◌+◌, Bool, false, cond, not, ◌&&◌, ◌||◌, List, [], is_some, Some, None, Option, ◌==◌, nat_le, nat_lt, slice_index_or}
+use Rattle.std.specs.List.{list_any}
 use Rattle.std.specs.Option.{option_map, option_flatten}
-use Rattle.conversion.specs.Lists.{any}
 use Rattle.conversion.specs.Kinds.{kinds}
 use Rattle.conversion.specs.Counts.{count_of}
 use Rattle.conversion.specs.declared.kinds.Kind.{Kind}
@@ -106,4 +106,4 @@ used_in d p k = sum_below 1024 (λ i. in_row p (λ s. kind_count k s.bindings) (
 
 -- whether a pool lacks room for one more set of the layout in row j
 abbrev pub full_at : Holdings → ℕ → LivePool → ℕ → Bool
-full_at d p pool j = nat_le pool.most (sets_in d p) || any (λ k. nat_lt (count_of pool.sizes k) (used_in d p k + kind_count k (bindings_at d j))) kinds
+full_at d p pool j = nat_le pool.most (sets_in d p) || list_any (λ k. nat_lt (count_of pool.sizes k) (used_in d p k + kind_count k (bindings_at d j))) kinds

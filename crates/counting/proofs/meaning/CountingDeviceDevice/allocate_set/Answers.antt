@@ -1,4 +1,4 @@
-use Rattle.std.proofs.Common.{◌≡◌, ◌||◌, eqb, Some, Err, sym, refl, ap, ◌∙◌, ap₂, subst, arith}
+use Rattle.std.proofs.Common.{◌||◌, eqb, Some, Err, sym, refl, ap, ◌∙◌, ap₂, subst, arith}
 use Rattle.std.specs.Map.{update}
 use Rattle.std.proofs.lemmas.Result.{err_from_is_err_and}
 use Rattle.conversion.specs.declared.results.DeviceCall.TheVariants.{Set}
@@ -85,19 +85,19 @@ returns-in_err-place c =
     let fault = c.in_err-place.field-0.0 in
     let passed = err_from_is_err_and c.from_residual.result c.from_residual.ensures.1 in
     let answer =
-      answer_fixed d d.word c.args.pool c.args.layout p.value p.row l.row l.value pools layouts fit (sym c.if-is_full.ensures)
-      ∙ ap (fixed_set d) (sym c.total-total.ensures.is) in
+    answer_fixed d d.word c.args.pool c.args.layout p.value p.row l.row l.value pools layouts fit (sym c.if-is_full.ensures)
+    ∙ ap (fixed_set d) (sym c.total-total.ensures.is) in
     let valid = valid_set d d.word c.args.pool c.args.layout p.value p.row l.row l.value pools layouts fit in
     let obstacle = answered_err Set (fixed_set d n) fault c.in_err-place.ensures in
     let refused = answer ∙ obstacle in
     let made : SetMade (meaning_of d) c.args.pool c.args.layout (Err fault) (meaning_of d) =
-      record {
-        answer = sym c.in_err-place.ensures ∙ ap (answered Set) (sym answer);
-        layouts = refl;
-        pools = refl;
-        sets = refl;
-        mark = or_none d.mark ∙ ap₂ (λ a b. d.mark || a || b) (sym valid) (sym (ap sets_mark refused ∙ unmarked d n fault.result obstacle));
-      } in
+    record {
+      answer = sym c.in_err-place.ensures ∙ ap (answered Set) (sym answer);
+      layouts = refl;
+      pools = refl;
+      sets = refl;
+      mark = or_none d.mark ∙ ap₂ (λ a b. d.mark || a || b) (sym valid) (sym (ap sets_mark refused ∙ unmarked d n fault.result obstacle));
+    } in
     record {
       held = subst (λ r. SetMade (meaning_of d) c.args.pool c.args.layout r (meaning_of d)) (sym (passed.1 ∙ ap Err passed.2)) made;
       one = ap (last_after d.last) (sym refused);
