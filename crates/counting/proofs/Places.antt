@@ -20,7 +20,8 @@ use Rattle.rows.specs.declared.holdings.Holdings.{Holdings}
 use Rattle.rows.specs.declared.holdings.SetRow.{SetRow}
 use Rattle.rows.specs.declared.pools.PoolRow.{PoolRow}
 use Rattle.rows.specs.Pools.{live_pool}
-use Rattle.rows.specs.Bindings.{list_of, start_of}
+use Rattle.rows.specs.Bindings.{start_of}
+use Rattle.rows.specs.Lists.{list_of}
 use Rattle.rows.specs.Tables.{slot, slot_at, row_of}
 use Rattle.rows.specs.Holdings.{HeldSet, is_of_pool, layout_in, layouts_of, pool_in, pools_of, bindings_at, set_at, held_in, held_total, found_by, no_bindings}
 use Rattle.rows.proofs.Meant.{found_clear, found_kept, found_used}

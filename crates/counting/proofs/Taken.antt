@@ -22,7 +22,8 @@ use Rattle.segments.specs.Segments.{size}
 use Rattle.rows.specs.declared.table.Table.{Table}
 use Rattle.rows.specs.declared.pools.PoolRow.{PoolRow}
 use Rattle.rows.specs.declared.holdings.Holdings.{Holdings}
-use Rattle.rows.specs.Bindings.{list_of, kind_count, at_most, total_of}
+use Rattle.rows.specs.Bindings.{kind_count, at_most, total_of}
+use Rattle.rows.specs.Lists.{list_of}
 use Rattle.rows.specs.Pools.{live_pool}
 use Rattle.rows.specs.Tables.{slot, slot_at, row_of, unused_row, changed}
 use Rattle.rows.specs.Holdings.{HeldSet, found_by, layout_in, layouts_of, pool_in, pools_of, bindings_at, set_at, in_row, sets_in, used_in, full_at, total_at, no_bindings}

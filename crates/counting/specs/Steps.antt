@@ -3,7 +3,7 @@ use Rattle.std.specs.Prelude.{◌≡◌, ℕ, ◌+◌, ◌-◌, Bool, true, cond
 use Rattle.std.specs.Map.{update}
 use Rattle.std.specs.Option.{option_or}
 use Rattle.conversion.specs.declared.bindings.DeviceBinding.{DeviceBinding}
-use Rattle.rows.specs.Bindings.{list_of}
+use Rattle.rows.specs.Lists.{list_of}
 use Rattle.conversion.specs.Kinds.{kind_of_type}
 use Rattle.device.specs.Meaning.{Descriptor}
 use Rattle.device.specs.declared.records.Write.{Write}
