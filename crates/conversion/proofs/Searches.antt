@@ -1,12 +1,11 @@
 -- What a search for the first number finds, and how it goes on.
-use Rattle.std.proofs.Common.{◌≡◌, ℕ, zero, suc, ◌+◌, ◌<◌, ◌≤◌, Bool, true, false, cond, List, length, get_or, drop, Some, None, Option, not, refl, sym, ap, ◌∙◌, subst, inl, inr, le_of_suc-le-suc, eq-or-lt_of_le, add-one, arith}
-use Rattle.std.proofs.lemmas.List.{drop_more}
+use Rattle.std.proofs.Common.{◌≡◌, ℕ, zero, suc, ◌+◌, ◌<◌, Bool, true, false, cond, List, length, get_or, Some, None, Option, refl, sym, ap, ◌∙◌, subst, inl, inr, le_of_suc-le-suc, eq-or-lt_of_le, add-one, arith}
+use native.Mathlib.Decide.{dec_lt}
 use Rattle.std.specs.Option.{option_or}
 use Rattle.std.specs.List.{position, position_or_len}
-use Rattle.std.proofs.lemmas.List.Sums.{prefix_len_passes}
-use Rattle.std.proofs.lemmas.Bool.Decides.{leb_tells}
-use Rattle.std.proofs.lemmas.List.Quantifiers.{position-Some}
-use Rattle.conversion.specs.Lists.{first, any}
+use Rattle.std.proofs.lemmas.List.Sums.{fails_before_first, passes_at_first}
+use Rattle.std.proofs.lemmas.Bool.{lt-ltb, le-ltb}
+use Rattle.conversion.specs.Lists.{first}
 
 -- none so far, and not here
 pub first_next : (f : ℕ → Bool) (i : ℕ) → first f i ≡ None → f i ≡ false → first f (i + 1) ≡ None
@@ -36,35 +35,22 @@ pub all_false : (f : ℕ → Bool) (n : ℕ) → ((i : ℕ) → i < n → f i �
 all_false f zero g = refl
 all_false f (suc n) g = rw (all_false f n (λ i h. g i (omega (arith, h))), g n (omega arith))
 
--- a test over a list goes on past an element at which it fails
-pub any_next : {X : Type 0} (f : X → Bool) (xs : List X) (i : ℕ) (d : X) → i < length xs → f (get_or xs i d) ≡ false → any f (drop i xs) ≡ any f (drop (i + 1) xs)
-any_next f xs i d h e = rw (drop_more xs i d h, e)
+-- what a search finds passes
+pub first_some : (f : ℕ → Bool) (n i : ℕ) → first f n ≡ Some i → (f i ≡ true) × (i < n)
+first_some f zero i e = let z : ◌≡◌ {A = ℕ} 0 1 = cc in absurd (omega arith)
+first_some f (suc n) i e = by (first f n) (f n) refl refl e (first_some f n i)
+  where
+    by : (o : Option ℕ) (b : Bool) → first f n ≡ o → f n ≡ b → option_or o (cond b (Some n) None) ≡ Some i → (first f n ≡ Some i → (f i ≡ true) × (i < n)) → (f i ≡ true) × (i < suc n)
+    by None true p q e more = let same : n ≡ i = cc in (ap f (sym same) ∙ q, omega arith)
+    by None false p q e more = let z : ◌≡◌ {A = ℕ} 0 1 = cc in absurd (omega arith)
+    by (Some k) b p q e more = let m = more (p ∙ e) in (m.0, omega (arith, m.1))
 
--- and ends at one at which it holds
-pub any_here : {X : Type 0} (f : X → Bool) (xs : List X) (i : ℕ) (d : X) → i < length xs → f (get_or xs i d) ≡ true → any f (drop i xs) ≡ true
-any_here f xs i d h e = rw (drop_more xs i d h, e)
-
--- a search that finds none finds none among fewer
-pub first_fewer : (f : ℕ → Bool) (n m : ℕ) → n ≤ m → first f m ≡ None → first f n ≡ None
-first_fewer f n m h e =
-    all_false f n (λ i l. first_none f m e i (omega arith))
-
-not_true : (b : Bool) → not b ≡ true → b ≡ false
-not_true true e = cc
-not_true false e = refl
-
--- the search by numbers finds what the library's search over a list does
-pub first_position : {X : Type 0} (p : X → Bool) (d : X) (xs : List X) → first (λ i. p (get_or xs i d)) (length xs) ≡ position p xs
-first_position p d xs =
-    let f : ℕ → Bool = λ i. p (get_or xs i d) in
-    let below : (k : ℕ) → k < position_or_len p xs → f k ≡ false = λ k h. not_true (f k) (prefix_len_passes (λ x. not (p x)) xs k d h) in
-    elim (leb_tells (suc (position_or_len p xs)) (length xs)) [
-      | inl h ↦
-          let e : position p xs ≡ Some (position_or_len p xs) = rw h.0 in
-          let s = position-Some p xs (position_or_len p xs) d e in
-          first_at f (position_or_len p xs) (length xs) s.0 (all_false f (position_or_len p xs) below) s.1 ∙ sym e
-      | inr h ↦
-          let e : position p xs ≡ None = rw h.0 in
-          let l = h.1 in
-          all_false f (length xs) (λ k q. below k (omega arith)) ∙ sym e
+-- the first element of a list that passes stands at the first number at which it does
+pub first_position : {X : Type 0} (p : X → Bool) (xs : List X) (d : X) (n : ℕ) → length xs ≡ n → position p xs ≡ first (λ i. p (get_or xs i d)) n
+first_position p xs d n e =
+    let at = position_or_len p xs in
+    let test = λ (i : ℕ). p (get_or xs i d) in
+    elim (dec_lt at (length xs)) [
+      | yes lt ↦ ap (λ b. cond b (Some at) None) (lt-ltb at (length xs) lt) ∙ sym (first_at test at n (omega arith) (all_false test at (λ k l. fails_before_first p xs k d l)) (passes_at_first p xs d lt))
+      | no le ↦ ap (λ b. cond b (Some at) None) (le-ltb at (length xs) (omega arith)) ∙ sym (all_false test n (λ k l. fails_before_first p xs k d (omega arith)))
     ]

@@ -12,23 +12,22 @@ use Rattle.conversion.specs.declared.kinds.EntryKind.TheVariants.{Descriptor, Ex
 use Rattle.conversion.specs.declared.counts.DescriptorCounts.{DescriptorCounts}
 use Rattle.conversion.specs.declared.counts.BucketKey.{BucketKey}
 use Rattle.conversion.specs.declared.entries.LayoutEntry.{LayoutEntry}
+use Rattle.conversion.proofs.Numbers.{by_kind}
 
-count_of_lem : (f : Kind → ℕ) (k : Kind) → count_of (counts_by f) k ≡ f k
-count_of_lem f Sampler = refl
-count_of_lem f SampledImage = refl
-count_of_lem f StorageImage = refl
-count_of_lem f UniformBuffer = refl
-count_of_lem f UniformBufferDynamic = refl
-count_of_lem f StorageBuffer = refl
-count_of_lem f StorageBufferDynamic = refl
-count_of_lem f AccelerationStructure = refl
+-- eight counts are what they are of each kind
+pub counts-by : (f : Kind → ℕ) (c : DescriptorCounts) → ((k : Kind) → count_of c k ≡ f k) → c ≡ counts_by f
+counts-by f c e = ap counts_by (fun_ext e)
+
+-- and of each kind what they were made of
+pub count_of-counts_by : (f : Kind → ℕ) (k : Kind) → count_of (counts_by f) k ≡ f k
+count_of-counts_by f = by_kind (λ k. count_of (counts_by f) k ≡ f k) refl refl refl refl refl refl refl refl
 
 -- one entry more is counted for its kind
 pub counts_more : (es : List LayoutEntry) (i : ℕ) (d : LayoutEntry) (b c : DescriptorCounts) → i < length es → b ≡ counts_of (take i es) → c ≡ counting b (get_or es i d) → c ≡ counts_of (take (i + 1) es)
 counts_more es i d b c h p q =
     q
     ∙ (ap (λ x. counting x (get_or es i d)) p
-    ∙ ap counts_by (fun_ext (λ k. ap (λ n. n + count_of_kind k (get_or es i d)) (count_of_lem (λ l. sum_by (count_of_kind l) (take i es)) k) ∙ sym (sum_by_more (count_of_kind k) es i d h))))
+    ∙ ap counts_by (fun_ext (λ k. ap (λ n. n + count_of_kind k (get_or es i d)) (count_of-counts_by (λ l. sum_by (count_of_kind l) (take i es)) k) ∙ sym (sum_by_more (count_of_kind k) es i d h))))
 
 pub key_of_lem : (es : List LayoutEntry) (c : DescriptorCounts) (b : Bool) → c ≡ counts_of es → b ≡ has_array es → record { counts = c; arrays = b } ≡ key_of es
 key_of_lem es c b p q = ap₂ {C = BucketKey} (λ x y. record { counts = x; arrays = y }) p q

@@ -1,7 +1,8 @@
 -- What a list of entries counts, what the device is told of it, and why it makes no layout. Assumes nothing.
 use Rattle.std.specs.Prelude.{◌≡◌, ℕ, suc, ◌+◌, ◌-◌, ◌^◌, ◌<◌, ◌≤◌, Bool, true, false, cond, not, ◌&&◌, List, map, length, take, Some, None, Ok, Err, sum_by, Option, Result, MatchResult, ◌==◌, nat_le, nat_lt, slice_index_or}
+use Rattle.std.specs.List.{list_any}
 use Rattle.std.specs.Option.{option_or, option_map, unwrap_or}
-use Rattle.conversion.specs.Lists.{first, any}
+use Rattle.conversion.specs.Lists.{first}
 use Rattle.conversion.specs.Kinds.{place, type_of}
 use Rattle.conversion.specs.Stages.{stage_flags}
 use Rattle.conversion.specs.Counts.{counts_by, count_of, total}
@@ -47,7 +48,7 @@ counting c e = counts_by (λ k. count_of c k + count_of_kind k e)
 
 -- whether a layout has an array
 abbrev pub has_array : List LayoutEntry → Bool
-has_array es = any is_array es
+has_array es = list_any is_array es
 
 -- the key of its bucket
 abbrev pub key_of : List LayoutEntry → BucketKey

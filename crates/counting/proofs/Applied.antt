@@ -12,7 +12,8 @@ use Rattle.device.specs.Meaning.{LiveSet}
 use Rattle.device.specs.Writes.{Lists, descriptor_of, valid_for, valid_in, valid, covers, last_to, holding, set_after, after_writes}
 use Rattle.segments.specs.Segments.{length_at}
 use Rattle.rows.specs.declared.holdings.SetRow.{SetRow}
-use Rattle.rows.specs.Bindings.{list_of, total_of, start_of}
+use Rattle.rows.specs.Bindings.{total_of, start_of}
+use Rattle.rows.specs.Lists.{list_of}
 use Rattle.rows.specs.Slots.{is_handle}
 use Rattle.rows.specs.Tables.{slot, slot_at, row_of}
 use Rattle.rows.specs.Holdings.{HeldSet, bindings_at, set_at, held_total, no_bindings}

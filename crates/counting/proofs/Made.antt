@@ -6,7 +6,7 @@ use Rattle.std.specs.Option.{option_map}
 use Rattle.rows.specs.declared.table.Table.{Table}
 use Rattle.rows.specs.declared.bindings.Bindings.{Bindings}
 use Rattle.rows.specs.declared.pools.PoolRow.{PoolRow}
-use Rattle.rows.specs.Bindings.{list_of}
+use Rattle.rows.specs.Lists.{list_of}
 use Rattle.rows.specs.Pools.{live_pool}
 use Rattle.rows.specs.Tables.{slot, slot_at, row_of, can_put, changed}
 use Rattle.rows.specs.Holdings.{found_by, no_bindings, layout_in, pool_in}

@@ -14,7 +14,8 @@ use Rattle.segments.specs.Places.{changed_at}
 use Rattle.segments.specs.Segments.{length_at, element, used, size, can_make, Made}
 use Rattle.rows.specs.declared.table.Table.{Table}
 use Rattle.rows.specs.declared.holdings.SetRow.{SetRow}
-use Rattle.rows.specs.Bindings.{list_of, start_of, total_of}
+use Rattle.rows.specs.Bindings.{start_of, total_of}
+use Rattle.rows.specs.Lists.{list_of}
 use Rattle.rows.specs.Tables.{slot, slot_at, row_of, unused_row, can_put}
 use Rattle.rows.specs.Holdings.{bindings_at, held_in, held_total, set_at, total_at, found_by, no_bindings}
 use Rattle.rows.proofs.Meant.{found_put}

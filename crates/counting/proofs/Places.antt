@@ -20,12 +20,13 @@ use Rattle.rows.specs.declared.holdings.Holdings.{Holdings}
 use Rattle.rows.specs.declared.holdings.SetRow.{SetRow}
 use Rattle.rows.specs.declared.pools.PoolRow.{PoolRow}
 use Rattle.rows.specs.Pools.{live_pool}
-use Rattle.rows.specs.Bindings.{list_of, start_of}
+use Rattle.rows.specs.Bindings.{start_of}
+use Rattle.rows.specs.Lists.{list_of}
 use Rattle.rows.specs.Tables.{slot, slot_at, row_of}
-use Rattle.rows.specs.Holdings.{HeldSet, layout_in, layouts_of, pool_in, pools_of, bindings_at, set_at, held_in, held_total, found_by, no_bindings}
+use Rattle.rows.specs.Holdings.{HeldSet, is_of_pool, layout_in, layouts_of, pool_in, pools_of, bindings_at, set_at, held_in, held_total, found_by, no_bindings}
 use Rattle.rows.proofs.Meant.{found_clear, found_kept, found_used}
 use Rattle.counting.specs.declared.counting.CountingDevice.{CountingDevice}
-use Rattle.counting.specs.Steps.{is_of, in_pool_at, SameRest, Removed, AllRemoved}
+use Rattle.counting.specs.Steps.{in_pool_at, SameRest, Removed, AllRemoved}
 use Rattle.counting.specs.Counting.{stored, sets_of, Records, elements, written_in, live_of, live_in}
 use Rattle.rows.proofs.Truths.{and_false, eqb_turned}
 use Rattle.counting.proofs.Made.{slot_here, slot_apart}
@@ -108,7 +109,7 @@ module _ (d : CountingDevice) (p row : ℕ) (e : CountingDevice) (so_far : Throu
   untouched = let b : ltb row row ≡ false = grind (arith, nat_tests) in so_far.2 row ∙ rw b refl
 
   pub asked : in_pool_at e p row ≡ in_pool_at d p row
-  asked = ap (is_of p) untouched
+  asked = ap (is_of_pool p) untouched
 
   pub through_cleared : (f : CountingDevice) → Removed e row f → true ≡ in_pool_at e p row → Through d p (row + 1) f
   through_cleared f gone taken = (
@@ -133,7 +134,7 @@ module _ (d : CountingDevice) (p row : ℕ) (e : CountingDevice) (so_far : Throu
   )
 
   none_past : (k : ℕ) → 1024 ≤ k → in_pool_at d p k ≡ false
-  none_past k le = ap (is_of p) (get_or_past d.holdings.sets.rows k None (omega (arith, d.holdings.sets.whole)))
+  none_past k le = ap (is_of_pool p) (get_or_past d.holdings.sets.rows k None (omega (arith, d.holdings.sets.whole)))
 
   pub through_all : row ≡ 1024 → AllRemoved d p e
   through_all all =
@@ -162,11 +163,11 @@ outside_sets d p e gone = found_kept d.holdings.sets e.holdings.sets (live_in (s
     held : List Bindings → Option (Slot SetRow) → Option HeldSet
     held bs o = option_map (λ s. record { pool = s.value.pool; bindings = list_of (get_or bs s.value.layout no_bindings) }) o
 
-    is_out : (k : ℕ) (o : Option (Slot SetRow)) → is_of p o ≡ true → None ≡ outside p (option_map (live_of d.records k) (held d.holdings.bindings o))
+    is_out : (k : ℕ) (o : Option (Slot SetRow)) → is_of_pool p o ≡ true → None ≡ outside p (option_map (live_of d.records k) (held d.holdings.bindings o))
     is_out k None q = refl
     is_out k (Some s) q = sym (ap (λ b. cond {A = Option LiveSet} b None (Some (live_of d.records k (record { pool = s.value.pool; bindings = list_of (get_or d.holdings.bindings s.value.layout no_bindings) })))) q)
 
-    is_in : (k : ℕ) (o : Option (Slot SetRow)) → is_of p o ≡ false → option_map (live_of d.records k) (held d.holdings.bindings o) ≡ outside p (option_map (live_of d.records k) (held d.holdings.bindings o))
+    is_in : (k : ℕ) (o : Option (Slot SetRow)) → is_of_pool p o ≡ false → option_map (live_of d.records k) (held d.holdings.bindings o) ≡ outside p (option_map (live_of d.records k) (held d.holdings.bindings o))
     is_in k None q = refl
     is_in k (Some s) q = sym (ap (λ b. cond {A = Option LiveSet} b None (Some (live_of d.records k (record { pool = s.value.pool; bindings = list_of (get_or d.holdings.bindings s.value.layout no_bindings) })))) q)
 

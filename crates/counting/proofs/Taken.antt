@@ -3,14 +3,15 @@ use Rattle.std.proofs.Common.{◌≡◌, ℕ, ◌+◌, ◌^◌, ◌<◌, Bool, t
 use mathlib.Core.Path.{fun_ext}
 use Rattle.std.proofs.lemmas.Bool.Decides.{nat_tests}
 use Rattle.std.specs.Map.{update}
+use Rattle.std.specs.List.{list_any}
 use Rattle.std.specs.Option.{option_map, option_flatten}
-use Rattle.conversion.specs.Lists.{any}
 use Rattle.conversion.specs.Kinds.{kinds}
 use Rattle.conversion.specs.Counts.{counts_by, count_of}
 use Rattle.conversion.specs.declared.kinds.Kind.{Kind}
 use Rattle.conversion.specs.declared.kinds.Kind.TheVariants.{Sampler, SampledImage, StorageImage, UniformBuffer, UniformBufferDynamic, StorageBuffer, StorageBufferDynamic, AccelerationStructure}
 use Rattle.conversion.specs.declared.counts.DescriptorCounts.{DescriptorCounts}
 use Rattle.conversion.proofs.Numbers.{by_kind}
+use Rattle.conversion.proofs.Sums.{count_of-counts_by}
 use Rattle.device.specs.Meaning.{State, LivePool, LiveLayout, LiveSet, sum_below, in_pool, live_sets, in_use, exhausted, unfit, after_bind, binding_counts, remembering}
 use Rattle.conversion.specs.declared.results.DeviceCall.TheVariants.{Set}
 use Rattle.device.specs.declared.faults.DeviceFault.{DeviceFault}
@@ -21,7 +22,8 @@ use Rattle.segments.specs.Segments.{size}
 use Rattle.rows.specs.declared.table.Table.{Table}
 use Rattle.rows.specs.declared.pools.PoolRow.{PoolRow}
 use Rattle.rows.specs.declared.holdings.Holdings.{Holdings}
-use Rattle.rows.specs.Bindings.{list_of, kind_count, at_most, total_of}
+use Rattle.rows.specs.Bindings.{kind_count, at_most, total_of}
+use Rattle.rows.specs.Lists.{list_of}
 use Rattle.rows.specs.Pools.{live_pool}
 use Rattle.rows.specs.Tables.{slot, slot_at, row_of, unused_row, changed}
 use Rattle.rows.specs.Holdings.{HeldSet, found_by, layout_in, layouts_of, pool_in, pools_of, bindings_at, set_at, in_row, sets_in, used_in, full_at, total_at, no_bindings}
@@ -50,19 +52,16 @@ module _ (d : CountingDevice) (word : d.last < 18446744073709551616) (p : ℕ) (
       found_sum d.holdings.sets (live_in (set_at d.holdings) d.records) (in_pool p f) refl (2 ^ 64) (λ i e. ap (λ o. option_map (live_of d.records i) (option_map (λ s. record { pool = s.value.pool; bindings = list_of (get_or d.holdings.bindings s.value.layout no_bindings) }) o)) e) (λ i h e. let le = d.sets i h e in omega arith) 1024
       ∙ below_same 1024 (λ i. in_pool p f (live_in (set_at d.holdings) d.records i)) (λ i. in_row p g (set_at d.holdings i)) (λ i. by_row i (set_at d.holdings i))
 
-count_of_lem : (f : Kind → ℕ) (k : Kind) → count_of (counts_by f) k ≡ f k
-count_of_lem f = by_kind (λ k. count_of (counts_by f) k ≡ f k) refl refl refl refl refl refl refl refl
-
 pub full_is : (d : CountingDevice) (p j : ℕ) (pool : LivePool) → d.last < 18446744073709551616 → exhausted (meaning_of d) p pool (binding_counts (bindings_at d.holdings j)) ≡ full_at d.holdings p pool j
 full_is d p j pool word =
     let sets : live_sets (meaning_of d) p ≡ sets_in d.holdings p = figures d word p (λ x. 1) (λ x. 1) (λ i s. refl) in
-    ap₂ ◌||◌ (ap (leb pool.most) sets) (ap (λ t. any t kinds) (fun_ext each))
+    ap₂ ◌||◌ (ap (leb pool.most) sets) (ap (λ t. list_any t kinds) (fun_ext each))
   where
     each : (k : Kind) → ltb (count_of pool.sizes k) (in_use (meaning_of d) p k + count_of (binding_counts (bindings_at d.holdings j)) k) ≡ ltb (count_of pool.sizes k) (used_in d.holdings p k + kind_count k (bindings_at d.holdings j))
-    each k = ap₂ (λ a b. ltb (count_of pool.sizes k) (a + b)) (figures d word p (λ x. count_of (binding_counts x.bindings) k) (λ s. kind_count k s.bindings) (λ i s. count_of_lem (λ k. kind_count k s.bindings) k)) (count_of_lem (λ k. kind_count k (bindings_at d.holdings j)) k)
+    each k = ap₂ (λ a b. ltb (count_of pool.sizes k) (a + b)) (figures d word p (λ x. count_of (binding_counts x.bindings) k) (λ s. kind_count k s.bindings) (λ i s. count_of-counts_by (λ k. kind_count k s.bindings) k)) (count_of-counts_by (λ k. kind_count k (bindings_at d.holdings j)) k)
 
 -- in a pool that is not full, counts fit their size
-each_false : (f : Kind → Bool) → any f kinds ≡ false → (k : Kind) → f k ≡ false
+each_false : (f : Kind → Bool) → list_any f kinds ≡ false → (k : Kind) → f k ≡ false
 each_false f e =
     let e0 = or_both (f Sampler) _ e in
     let e1 = or_both (f SampledImage) _ e0.1 in
@@ -79,7 +78,7 @@ exact_counts d p j pool room = ap counts_by (fun_ext each)
   where
     each : (k : Kind) → at_most (kind_count k (bindings_at d j)) (count_of pool.sizes k) ≡ kind_count k (bindings_at d j)
     each k =
-        let fits = each_false (λ k. ltb (count_of pool.sizes k) (used_in d p k + kind_count k (bindings_at d j))) (or_both (leb pool.most (sets_in d p)) (any (λ k. ltb (count_of pool.sizes k) (used_in d p k + kind_count k (bindings_at d j))) kinds) room).1 k in
+        let fits = each_false (λ k. ltb (count_of pool.sizes k) (used_in d p k + kind_count k (bindings_at d j))) (or_both (leb pool.most (sets_in d p)) (list_any (λ k. ltb (count_of pool.sizes k) (used_in d p k + kind_count k (bindings_at d j))) kinds) room).1 k in
         grind (arith, nat_tests)
 
 -- the answer, where pool and layout live

@@ -14,7 +14,7 @@ use Rattle.rows.specs.declared.bindings.Bindings.{Bindings}
 use Rattle.rows.specs.declared.holdings.Holdings.{Holdings}
 use Rattle.rows.specs.declared.holdings.SetRow.{SetRow}
 use Rattle.rows.specs.Slots.{first_row, is_handle}
-use Rattle.rows.specs.Bindings.{list_of}
+use Rattle.rows.specs.Lists.{list_of}
 use Rattle.rows.specs.Tables.{slot, slot_at, row_of, unused_row, can_put, changed}
 use Rattle.rows.specs.Holdings.{HeldSet, names, held_in, is_named, is_free_layout_row, free_layout_row, no_bindings}
 use Rattle.rows.proofs.Truths.{met_at, clash, and_both, nothing, none_there}

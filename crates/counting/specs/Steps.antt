@@ -1,18 +1,16 @@
 -- The steps that calls of the counting device are made of. Assumes nothing.
-use Rattle.std.specs.Prelude.{◌≡◌, ℕ, ◌+◌, ◌-◌, Bool, true, false, cond, ◌&&◌, ◌||◌, List, [], ◌∷◌, is_some, Some, None, Ok, Option, ◌==◌, nat_eq, nat_le, nat_lt}
+use Rattle.std.specs.Prelude.{◌≡◌, ℕ, ◌+◌, ◌-◌, Bool, true, cond, ◌&&◌, ◌||◌, List, [], ◌∷◌, is_some, Some, None, Ok, Option, ◌==◌, nat_eq, nat_le, nat_lt}
 use Rattle.std.specs.Map.{update}
 use Rattle.std.specs.Option.{option_or}
 use Rattle.conversion.specs.declared.bindings.DeviceBinding.{DeviceBinding}
-use Rattle.rows.specs.Bindings.{list_of}
+use Rattle.rows.specs.Lists.{list_of}
 use Rattle.conversion.specs.Kinds.{kind_of_type}
 use Rattle.device.specs.Meaning.{Descriptor}
 use Rattle.device.specs.declared.records.Write.{Write}
 use Rattle.device.specs.Writes.{Lists, descriptor_of, after_writes, some_invalid}
 use Rattle.segments.specs.Segments.{length_at, size}
-use Rattle.rows.specs.declared.slots.Slot.{Slot}
-use Rattle.rows.specs.declared.holdings.SetRow.{SetRow}
 use Rattle.rows.specs.Tables.{slot_at, unused_row}
-use Rattle.rows.specs.Holdings.{free_layout_row}
+use Rattle.rows.specs.Holdings.{is_of_pool, free_layout_row}
 use Rattle.counting.specs.declared.counting.CountingDevice.{CountingDevice}
 use Rattle.counting.specs.declared.calls.Place.{Place}
 use Rattle.counting.specs.declared.calls.LayoutPlace.{LayoutPlace}
@@ -41,13 +39,9 @@ pub record SetPlaced (d : CountingDevice) (n : ℕ) (p : Place) : Type 0 where
   pub fixed : fixed_set d n ≡ Ok p.handle
   pub row : unused_row d.holdings.sets ≡ Some p.row
 
--- whether what stands in a row is a set of the pool
-abbrev pub is_of : ℕ → Option (Slot SetRow) → Bool
-is_of p None = false
-is_of p (Some s) = s.value.pool == p
-
+-- whether the set in a row lives in the pool
 abbrev pub in_pool_at : CountingDevice → ℕ → ℕ → Bool
-in_pool_at d p i = is_of p (slot_at d.holdings.sets i)
+in_pool_at d p i = is_of_pool p (slot_at d.holdings.sets i)
 
 -- all but the sets, their records and the mark
 pub record SameRest (d e : CountingDevice) : Type 0 where

@@ -1,6 +1,7 @@
 -- Sums over the handles below a bound.
-use Rattle.std.proofs.Common.{◌≡◌, ℕ, zero, suc, ◌+◌, ◌<◌, ◌≤◌, eqb, Option, refl, ap₂, add-one, arith}
+use Rattle.std.proofs.Common.{◌≡◌, ℕ, zero, suc, ◌+◌, ◌<◌, ◌≤◌, eqb, List, length, get_or, take, sum_by, Option, refl, ap₂, add-one, arith}
 use Rattle.std.specs.Map.{update}
+use Rattle.std.proofs.lemmas.List.Sums.{sum_by_more}
 use Rattle.std.proofs.lemmas.Bool.Decides.{nat_tests}
 use Rattle.device.specs.Meaning.{sum_below}
 
@@ -23,6 +24,15 @@ pub below_none : (n : ℕ) (f : ℕ → ℕ) → ((h : ℕ) → f h ≡ 0) → s
 unfolding sum_below
 below_none zero f e = refl
 below_none (suc n) f e = omega (arith, e n, below_none n f e)
+
+-- a sum over the first elements of a list, by their places
+pub sum_by-take : {X : Type 0} (f : X → ℕ) (xs : List X) (d : X) (n : ℕ) → n ≤ length xs → sum_by f (take n xs) ≡ sum_below n (λ i. f (get_or xs i d))
+unfolding sum_below
+sum_by-take f xs d zero l = refl
+sum_by-take f xs d (suc n) l =
+    let more = sum_by_more f xs n d (omega arith) in
+    let e = add-one n in
+    omega (arith, rw e at more, sum_by-take f xs d n (omega arith))
 
 -- one term changed, at or past the bound and below it
 module _ {X : Type 0} (value : Option X → ℕ) (held : ℕ → Option X) (h : ℕ) (w : Option X) where

@@ -2,4 +2,3 @@ pub mod Kindly
 pub mod Below
 pub mod Counted
 pub mod Ordered
-pub mod Nths

@@ -1,8 +1,9 @@
 -- What each call of a device answers, and what it holds afterwards. Assumes nothing.
 use Rattle.std.specs.Prelude.{◌≡◌, ℕ, Bool, true, false, cond, not, ◌||◌, List, [], length, take, ℤ, Some, None, Ok, Err, Option, Result, MatchResult, ◌==◌, nat_eq, slice_index_or}
+use Rattle.std.specs.List.{list_any}
 use Rattle.std.specs.Map.{update}
 use Rattle.std.specs.Option as options
-use Rattle.conversion.specs.Lists.{first, any}
+use Rattle.conversion.specs.Lists.{first}
 use Rattle.conversion.specs.Kinds.{kind_of_type}
 use Rattle.conversion.specs.declared.bindings.DeviceBinding.{DeviceBinding}
 use Rattle.conversion.specs.declared.results.DeviceCall.TheVariants as call
@@ -27,7 +28,7 @@ unknown_type t = not (options.is_some (kind_of_type t))
 
 -- a layout is invalid if it has such a type
 abbrev pub invalid_layout : List DeviceBinding → Bool
-invalid_layout bs = any (λ b. unknown_type b.descriptor_type) bs
+invalid_layout bs = list_any (λ b. unknown_type b.descriptor_type) bs
 
 -- the answer to a layout that is asked for
 abbrev pub layout_answer : State → List DeviceBinding → ℕ → Result ℕ ℤ
@@ -50,7 +51,7 @@ pub record LayoutGone (m : State) (l : ℕ) (n : State) : Type 0 where
 
 -- whether a type is listed
 abbrev pub has_type : ℕ → List PoolSize → Bool
-has_type t ss = any (λ s. nat_eq s.descriptor_type t) ss
+has_type t ss = list_any (λ s. nat_eq s.descriptor_type t) ss
 
 -- a size is invalid if it is 0, if its type is none of the eight, or if its type stands before it
 abbrev pub invalid_size : PoolSize → List PoolSize → Bool

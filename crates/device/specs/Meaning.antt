@@ -1,9 +1,9 @@
 -- What a device holds, and what its state fixes. Assumes nothing.
 use Rattle.std.specs.Prelude.{ℕ, zero, suc, ◌+◌, ◌^◌, Bool, false, cond, not, ◌&&◌, ◌||◌, List, ℤ, Some, None, sum_by, Option, Result, ◌==◌, nat_le, nat_lt}
+use Rattle.std.specs.List.{list_any}
 use Rattle.conversion.specs.declared.kinds.Kind.{Kind}
 use Rattle.conversion.specs.declared.counts.DescriptorCounts.{DescriptorCounts}
 use Rattle.conversion.specs.declared.bindings.DeviceBinding.{DeviceBinding}
-use Rattle.conversion.specs.Lists.{any}
 use Rattle.conversion.specs.Kinds.{kinds, type_number}
 use Rattle.conversion.specs.Counts.{counts_by, count_of}
 use Rattle.conversion.specs.Stages.{bit}
@@ -92,11 +92,11 @@ in_use s p k = sum_below (2 ^ 64) (λ h. in_pool p (λ x. count_of (binding_coun
 
 -- whether a pool lacks room for one more set with these counts: it has its most sets, or too few descriptors of a kind
 abbrev pub exhausted : State → ℕ → LivePool → DescriptorCounts → Bool
-exhausted s p pool c = nat_le pool.most (live_sets s p) || any (λ k. nat_lt (count_of pool.sizes k) (in_use s p k + count_of c k)) kinds
+exhausted s p pool c = nat_le pool.most (live_sets s p) || list_any (λ k. nat_lt (count_of pool.sizes k) (in_use s p k + count_of c k)) kinds
 
 -- whether two counts agree in every kind
 abbrev pub same_counts : DescriptorCounts → DescriptorCounts → Bool
-same_counts a b = not (any (λ k. not (count_of a k == count_of b k)) kinds)
+same_counts a b = not (list_any (λ k. not (count_of a k == count_of b k)) kinds)
 
 -- whether counts differ from those of a pool's first set, if it had one
 abbrev pub differs : Option DescriptorCounts → DescriptorCounts → Bool

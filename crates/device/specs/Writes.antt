@@ -1,8 +1,7 @@
 -- What writes put into sets. Assumes nothing.
 use Rattle.std.specs.Prelude.{ℕ, ◌+◌, Bool, false, cond, not, ◌&&◌, List, [], ◌∷◌, length, Some, None, Option, ◌==◌, nat_le, nat_lt}
-use Rattle.std.specs.List.{slice_get}
+use Rattle.std.specs.List.{slice_get, list_any}
 use Rattle.std.specs.Option.{option_map, option_or}
-use Rattle.conversion.specs.Lists.{any}
 use Rattle.conversion.specs.Kinds.{kind_of_type}
 use Rattle.conversion.specs.declared.kinds.Kind.{Kind}
 use Rattle.conversion.specs.declared.kinds.Kind.TheVariants.{Sampler, SampledImage, StorageImage, UniformBuffer, UniformBufferDynamic, StorageBuffer, StorageBufferDynamic, AccelerationStructure}
@@ -105,4 +104,4 @@ after_writes l ws sets h = option_map (set_after l ws sets h) (sets h)
 
 -- whether one of the writes is invalid
 abbrev pub some_invalid : Lists → List Write → (ℕ → Option LiveSet) → Bool
-some_invalid l ws sets = any (λ w. not (valid l w sets)) ws
+some_invalid l ws sets = list_any (λ w. not (valid l w sets)) ws

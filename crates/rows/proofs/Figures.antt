@@ -1,20 +1,11 @@
 -- What rows add up to.
-use Rattle.std.proofs.Common.{◌≡◌, ℕ, zero, suc, ◌*◌, ◌≤◌, min, Bool, cond, List, length, get_or, take, filter, sum_by, sym, refl, ap, ◌∙◌, add-one, arith}
+use Rattle.std.proofs.Common.{◌≡◌, ℕ, ◌*◌, ◌≤◌, min, Bool, cond, List, length, get_or, filter, sum_by, sym, ap, ◌∙◌, arith}
 use Rattle.std.proofs.lemmas.List.{take_all}
-use Rattle.std.proofs.lemmas.List.Sums.{sum_by_more, sum_by-le, length-filter}
+use Rattle.std.proofs.lemmas.List.Sums.{sum_by-le, length-filter}
 use Rattle.device.specs.Meaning.{sum_below}
-use Rattle.device.proofs.Below.{below_same}
+use Rattle.device.proofs.Below.{below_same, sum_by-take}
 
--- a sum over the first elements of a list, by their places
-pub sum_by-take : {X : Type 0} (f : X → ℕ) (xs : List X) (d : X) (n : ℕ) → n ≤ length xs → sum_by f (take n xs) ≡ sum_below n (λ i. f (get_or xs i d))
-unfolding sum_below
-sum_by-take f xs d zero l = refl
-sum_by-take f xs d (suc n) l =
-    let more = sum_by_more f xs n d (omega arith) in
-    let e = add-one n in
-    omega (arith, rw e at more, sum_by-take f xs d n (omega arith))
-
--- and over all of them
+-- a sum over a list, by places
 pub sum_by-rows : {X : Type 0} (f : X → ℕ) (xs : List X) (d : X) (n : ℕ) → length xs ≡ n → sum_by f xs ≡ sum_below n (λ i. f (get_or xs i d))
 sum_by-rows f xs d n e = ap (sum_by f) (sym (take_all n xs (omega arith))) ∙ sum_by-take f xs d n (omega arith)
 

@@ -3,16 +3,13 @@ use Rattle.std.proofs.Common.{◌≡◌, ℕ, zero, suc, ◌+◌, ◌<◌, ◌�
 use native.Mathlib.Decide.{dec_lt}
 use mathlib.Core.Path.{fun_ext}
 use Rattle.std.proofs.lemmas.List.{get_or_past}
-use Rattle.std.proofs.lemmas.List.Sums.{fails_before_first, passes_at_first}
 use Rattle.std.proofs.lemmas.List.Folds.{find-append}
-use Rattle.std.specs.List.{position, position_or_len, position_from, list_any, find, range_with_len}
+use Rattle.std.specs.List.{position_from, list_any, find, range_with_len}
 use Rattle.std.proofs.lemmas.Iterator.Adapters.{position_from-zero}
-use Rattle.std.proofs.lemmas.Bool.{lt-ltb, le-ltb}
 use Rattle.std.proofs.lemmas.Bool.Decides.{nat_tests, eqb_tells}
 use Rattle.std.specs.Map.{update}
 use Rattle.std.specs.Option.{option_or, option_map}
-use Rattle.conversion.specs.Lists.{first}
-use Rattle.conversion.proofs.Searches.{first_none, first_at, all_false}
+use Rattle.conversion.proofs.Searches.{first_some, first_none, first_position, all_false}
 use Rattle.rows.specs.declared.slots.Slot.{Slot}
 use Rattle.rows.specs.Slots.{first_row, is_handle, share, Differ}
 use Rattle.rows.proofs.Truths.{met_at, and_three, nothing}
@@ -20,18 +17,9 @@ use Rattle.rows.specs.declared.table.Table.{Table}
 use Rattle.rows.specs.Tables.{slot, slot_at, row_of, can_put, changed}
 
 -- what a search finds is there
-some_there : (f : ℕ → Bool) (n i : ℕ) → first f n ≡ Some i → (f i ≡ true) × (i < n)
-some_there f zero i e = let z : ◌≡◌ {A = ℕ} 0 1 = cc in absurd (omega arith)
-some_there f (suc n) i e = by (first f n) (f n) refl refl e (some_there f n i)
-  where
-    by : (o : Option ℕ) (b : Bool) → first f n ≡ o → f n ≡ b → option_or o (cond b (Some n) None) ≡ Some i → (first f n ≡ Some i → (f i ≡ true) × (i < n)) → (f i ≡ true) × (i < suc n)
-    by None true p q e more = let same : n ≡ i = cc in (ap f (sym same) ∙ q, omega arith)
-    by None false p q e more = let z : ◌≡◌ {A = ℕ} 0 1 = cc in absurd (omega arith)
-    by (Some k) b p q e more = let m = more (p ∙ e) in (m.0, omega (arith, m.1))
-
 pub row_some : (f : ℕ → Bool) (n i : ℕ) → first_row f n ≡ Some i → (f i ≡ true) × (i < n)
 unfolding first_row
-row_some f n i e = some_there f n i e
+row_some f n i e = first_some f n i e
 
 pub row_none : (f : ℕ → Bool) (n : ℕ) → first_row f n ≡ None → (i : ℕ) → i < n → f i ≡ false
 unfolding first_row
@@ -40,11 +28,6 @@ row_none f n e i lt = first_none f n e i lt
 pub no_row : (f : ℕ → Bool) (n : ℕ) → ((i : ℕ) → i < n → f i ≡ false) → first_row f n ≡ None
 unfolding first_row
 no_row f n e = all_false f n e
-
--- a search that ends at a row
-pub row_here : (f : ℕ → Bool) (i n : ℕ) → i < n → first f i ≡ None → f i ≡ true → first_row f n ≡ Some i
-unfolding first_row
-row_here f i n lt e x = first_at f i n lt e x
 
 -- a search from its beginning, row by row
 pub row_zero : (f : ℕ → Bool) → first_row f 0 ≡ None
@@ -55,19 +38,10 @@ pub row_suc : (f : ℕ → Bool) (n : ℕ) → first_row f (suc n) ≡ option_or
 unfolding first_row
 row_suc f n = refl
 
--- the first element of a list that passes stands in the first row at which it does
-pub position-row : {X : Type 0} (p : X → Bool) (xs : List X) (d : X) (n : ℕ) → length xs ≡ n → position p xs ≡ first_row (λ i. p (get_or xs i d)) n
-position-row p xs d n e =
-    let at = position_or_len p xs in
-    let test = λ (i : ℕ). p (get_or xs i d) in
-    elim (dec_lt at (length xs)) [
-      | yes lt ↦ ap (λ b. cond b (Some at) None) (lt-ltb at (length xs) lt) ∙ sym (row_here test at n (omega arith) (all_false test at (λ k l. fails_before_first p xs k d l)) (passes_at_first p xs d lt))
-      | no le ↦ ap (λ b. cond b (Some at) None) (le-ltb at (length xs) (omega arith)) ∙ sym (no_row test n (λ k l. fails_before_first p xs k d (omega arith)))
-    ]
-
 -- whether an element passes
 pub any-row : {X : Type 0} (p : X → Bool) (xs : List X) (d : X) (n : ℕ) → length xs ≡ n → list_any p xs ≡ is_some (first_row (λ i. p (get_or xs i d)) n)
-any-row p xs d n e = from 0 xs ∙ ap is_some (sym (position_from-zero p xs) ∙ position-row p xs d n e)
+unfolding first_row
+any-row p xs d n e = from 0 xs ∙ ap is_some (sym (position_from-zero p xs) ∙ first_position p xs d n e)
   where
     from : (k : ℕ) (ys : List _) → list_any p ys ≡ is_some (position_from p k ys)
     from k [] = refl

@@ -2,5 +2,5 @@ pub mod Truths
 pub mod Found
 pub mod Sizes
 pub mod Figures
-pub mod Counts
+pub mod Totals
 pub mod Meant

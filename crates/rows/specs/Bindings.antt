@@ -3,11 +3,6 @@ use Rattle.std.specs.Prelude.{ℕ, cond, List, take, sum_by, ◌==◌, nat_lt}
 use Rattle.conversion.specs.Kinds.{type_number}
 use Rattle.conversion.specs.declared.kinds.Kind.{Kind}
 use Rattle.conversion.specs.declared.bindings.DeviceBinding.{DeviceBinding}
-use Rattle.rows.specs.declared.bindings.Bindings.{Bindings}
-
--- the bindings as a list
-abbrev pub list_of : Bindings → List DeviceBinding
-list_of b = b.list.items
 
 -- how many descriptors of a kind a binding has
 abbrev pub of_kind : Kind → DeviceBinding → ℕ

@@ -1,7 +1,8 @@
 -- What the rows of a device hold, and what they add up to. Assumes nothing.
-use Rattle.std.specs.Prelude.{ℕ, ◌+◌, Bool, false, cond, not, ◌&&◌, ◌||◌, List, [], is_some, Some, None, Option, ◌==◌, nat_le, nat_lt, slice_index_or}
+use Rattle.std.specs.Prelude.{ℕ, ◌+◌, Bool, false, cond, not, ◌&&◌, ◌||◌, List, [], is_some, Some, None, Option, ◌==◌, nat_le, nat_lt, slice_index_or, refl}
+use Rattle.std.proofs.Common.{arith}
+use Rattle.std.specs.List.{list_any}
 use Rattle.std.specs.Option.{option_map, option_flatten}
-use Rattle.conversion.specs.Lists.{any}
 use Rattle.conversion.specs.Kinds.{kinds}
 use Rattle.conversion.specs.Counts.{count_of}
 use Rattle.conversion.specs.declared.kinds.Kind.{Kind}
@@ -13,7 +14,8 @@ use Rattle.rows.specs.declared.bindings.Bindings.{Bindings}
 use Rattle.rows.specs.declared.pools.PoolRow.{PoolRow}
 use Rattle.rows.specs.declared.holdings.Holdings.{Holdings}
 use Rattle.rows.specs.declared.holdings.SetRow.{SetRow}
-use Rattle.rows.specs.Bindings.{list_of, kind_count, total_of}
+use Rattle.rows.specs.Bindings.{kind_count, total_of}
+use Rattle.rows.specs.Lists.{list_of}
 use Rattle.rows.specs.Pools.{live_pool}
 use Rattle.rows.specs.Slots.{first_row}
 use Rattle.rows.specs.Tables.{slot_at, row_of}
@@ -24,7 +26,7 @@ found_by row at h = option_flatten (option_map at (row h))
 
 -- past the last row of bindings there are none
 abbrev pub no_bindings : Bindings
-no_bindings = record { list = record { items = [] } }
+no_bindings = record { list = record { items = [] }; total = 0; is = refl; small = omega arith }
 
 -- the bindings in a layout's row
 abbrev pub bindings_at : Holdings → ℕ → List DeviceBinding
@@ -106,4 +108,4 @@ used_in d p k = sum_below 1024 (λ i. in_row p (λ s. kind_count k s.bindings) (
 
 -- whether a pool lacks room for one more set of the layout in row j
 abbrev pub full_at : Holdings → ℕ → LivePool → ℕ → Bool
-full_at d p pool j = nat_le pool.most (sets_in d p) || any (λ k. nat_lt (count_of pool.sizes k) (used_in d p k + kind_count k (bindings_at d j))) kinds
+full_at d p pool j = nat_le pool.most (sets_in d p) || list_any (λ k. nat_lt (count_of pool.sizes k) (used_in d p k + kind_count k (bindings_at d j))) kinds

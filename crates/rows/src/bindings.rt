@@ -1,7 +1,7 @@
 // The bindings of a device layout.
-ghost use Rattle.std.specs.Prelude.{◌≡◌, ◌^◌, ◌<◌, ◌≤◌, length, MatchOption};
+ghost use Rattle.std.specs.Prelude.{◌≡◌, ◌^◌, ◌<◌, ◌≤◌, [], length, MatchOption};
 ghost use Rattle.std.specs.List.{slice_get};
-ghost use Rattle.rows.specs.Bindings.{list_of, of_kind, kind_count, total_of, start_of};
+ghost use Rattle.rows.specs.Bindings.{of_kind, kind_count, total_of, start_of};
 
 use arrayvec::ArrayVec;
 use conversion::bindings::DeviceBinding;
@@ -10,10 +10,27 @@ use conversion::kinds::Kind;
 // The most bindings that a device layout can have here.
 pub const MAX_BINDINGS: usize = 32;
 
-// A list of bindings in a row of its own.
-#[derive(Default, Drop)]
+// A list of bindings in a row of its own, and how many descriptors they have.
+#[derive(Drop)]
 pub struct Bindings {
     list: ArrayVec<DeviceBinding, MAX_BINDINGS>,
+    total: usize,
+    ghost is: { total ≡ total_of list.items },
+    // 32 counts of 32 bits
+    ghost small: { total < 2 ^ 37 },
+}
+
+impl Default for Bindings {
+    ghost use Rattle.rows.specs.Lists.{list_of};
+
+    ghost is_default = { λ b. list_of b ≡ [] };
+
+    fn default() -> Self {
+        Bindings {
+            list: ArrayVec::default(),
+            total: 0,
+        }
+    }
 }
 
 // What a binding has of a kind.
@@ -28,12 +45,15 @@ fn of_kind(binding: &DeviceBinding, kind: Kind) -> u32
 }
 
 impl Bindings {
+    ghost use Rattle.rows.specs.Lists.{list_of};
+
     // A copy of a list, unless it is too long.
     pub fn of(list: &[DeviceBinding]) -> Option<Bindings>
         ensures { MatchOption result (32 < length list.now) (λ b. (length list.now ≤ 32) × (list_of b ≡ list.now)) }
     {
         let list = ArrayVec::try_from(list).ok()?;
-        Some(Bindings { list })
+        let total = list.iter().map(|binding| binding.count as usize).sum();
+        Some(Bindings { list, total })
     }
 
     pub(crate) fn get(&self, i: usize) -> Option<DeviceBinding>
@@ -44,8 +64,7 @@ impl Bindings {
 
     // How many descriptors of a kind there are.
     pub(crate) fn count_of(&self, kind: Kind) -> u64
-        ensures is { result ≡ kind_count kind (list_of self.now) }
-        ensures small { result < 2 ^ 37 }
+        ensures { result ≡ kind_count kind (list_of self.now) }
     {
         self.list
             .iter()
@@ -55,16 +74,14 @@ impl Bindings {
 
     // How many descriptors there are.
     pub(crate) fn total(&self) -> usize
-        ensures is { result ≡ total_of (list_of self.now) }
-        ensures small { result < 2 ^ 37 }
+        ensures { result ≡ total_of (list_of self.now) }
     {
-        self.list.iter().map(|binding| binding.count as usize).sum()
+        self.total
     }
 
     // How many of them stand before binding i.
     pub(crate) fn start(&self, i: usize) -> usize
-        ensures is { result ≡ start_of (list_of self.now) i }
-        ensures small { result < 2 ^ 37 }
+        ensures { result ≡ start_of (list_of self.now) i }
     {
         self.list
             .iter()

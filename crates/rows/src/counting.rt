@@ -1,5 +1,5 @@
 // What the rows add up to.
-ghost use Rattle.std.specs.Prelude.{◌≡◌, ℕ, ◌+◌, ◌^◌, ◌<◌, [], replicate, None, nat_lt};
+ghost use Rattle.std.specs.Prelude.{◌≡◌, ℕ, ◌+◌, [], replicate, None, nat_lt};
 ghost use Rattle.std.specs.List.{slice_get};
 ghost use Rattle.conversion.specs.Counts.{count_of, counts_by};
 ghost use Rattle.rows.specs.Bindings.{kind_count, total_of, start_of, at_most};
@@ -72,8 +72,7 @@ impl Holdings {
 impl Holdings {
     // How many descriptors of a kind the layout in a row has.
     fn kind_count(&self, layout: usize, kind: Kind) -> u64
-        ensures is { result ≡ kind_count kind (bindings_at self.now layout) }
-        ensures small { result < 2 ^ 37 }
+        ensures { result ≡ kind_count kind (bindings_at self.now layout) }
     {
         self.bindings
             .get(layout)
@@ -93,16 +92,14 @@ impl Holdings {
 
     // What the set in a row has of a kind, if it lives in the pool.
     fn used_by(&self, row: Option<Slot<SetRow>>, pool: u64, kind: Kind) -> u64
-        ensures is { result ≡ in_row pool (λ s. kind_count kind s.bindings) (held_of self.now.bindings row) }
-        ensures small { result < 2 ^ 37 }
+        ensures { result ≡ in_row pool (λ s. kind_count kind s.bindings) (held_of self.now.bindings row) }
     {
         row.filter(|set| set.value.pool == pool)
             .map_or(0, |set| self.kind_count(set.value.layout, kind))
     }
 
     fn used_in(&self, pool: u64, kind: Kind) -> u64
-        ensures is { result ≡ used_in self.now pool kind }
-        ensures small { result < 2 ^ 47 }
+        ensures { result ≡ used_in self.now pool kind }
     {
         self.sets
             .rows
@@ -132,8 +129,7 @@ impl Holdings {
 impl Holdings {
     // How many descriptors the layout in a row has.
     pub fn total(&self, layout: usize) -> usize
-        ensures is { result ≡ total_of (bindings_at self.now layout) }
-        ensures small { result < 2 ^ 37 }
+        ensures { result ≡ total_of (bindings_at self.now layout) }
     {
         self.bindings
             .get(layout)
@@ -142,8 +138,7 @@ impl Holdings {
 
     // How many of them stand before binding i.
     pub fn start(&self, layout: usize, i: usize) -> usize
-        ensures is { result ≡ start_of (bindings_at self.now layout) i }
-        ensures small { result < 2 ^ 37 }
+        ensures { result ≡ start_of (bindings_at self.now layout) i }
     {
         self.bindings
             .get(layout)

@@ -1,6 +1,5 @@
 -- Where segments begin, and how that changes with a length.
-use Rattle.std.proofs.Common.{◌≡◌, ℕ, zero, suc, ◌+◌, ◌<◌, ◌≤◌, List, length, get_or, take, sum, refl, inl, inr, eq-or-lt_of_le, add-one, arith}
-use Rattle.std.proofs.lemmas.List.Sums.{sum_by_more}
+use Rattle.std.proofs.Common.{◌≡◌, ℕ, zero, suc, ◌+◌, ◌<◌, ◌≤◌, refl, inl, inr, eq-or-lt_of_le, arith}
 use Rattle.std.proofs.lemmas.Bool.Decides.{nat_tests}
 use Rattle.device.specs.Meaning.{sum_below}
 use Rattle.segments.specs.Places.{changed_at}
@@ -17,12 +16,6 @@ module _ (f : ℕ → ℕ) where
   unfolding sum_below
   sum_within k zero l = absurd (omega arith)
   sum_within k (suc n) l = let more = sum_within k n in grind arith
-
--- the first numbers of a list add up to what stands below
-pub sum-take : (xs : List ℕ) (n : ℕ) → n ≤ length xs → sum (take n xs) ≡ sum_below n (λ k. get_or xs k 0)
-unfolding sum_below
-sum-take xs zero l = refl
-sum-take xs (suc n) l = let more = sum_by_more (λ x. x) xs n 0 (omega arith) in let e = add-one n in omega (arith, rw e at more, sum-take xs n (omega arith))
 
 -- one term changed, at or past the bound and below it
 module _ (f : ℕ → ℕ) (i v : ℕ) where

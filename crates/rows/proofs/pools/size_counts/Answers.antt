@@ -1,6 +1,6 @@
 use Rattle.std.proofs.Common.{rules}
 use Rattle.device.specs.Meaning.{size_of}
-use Rattle.rows.proofs.Counts.{counts-by}
+use Rattle.conversion.proofs.Sums.{counts-by}
 use Rattle.rows.proofs.pools.size_counts.Goals as goal
 
 pub returns : goal.returns

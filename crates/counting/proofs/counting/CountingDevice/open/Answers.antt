@@ -1,6 +1,6 @@
 use Rattle.std.proofs.Common.{get_or, sym, refl, ap, ◌∙◌, arith}
 use Rattle.std.specs.Option.{option_map}
-use Rattle.rows.specs.Bindings.{list_of}
+use Rattle.rows.specs.Lists.{list_of}
 use Rattle.rows.specs.Holdings.{layout_in, pool_in, set_at, held_total, no_bindings}
 use Rattle.counting.specs.Counting.{live_in}
 use Rattle.counting.proofs.Opening.{empty_row, empty_given, empty_found}

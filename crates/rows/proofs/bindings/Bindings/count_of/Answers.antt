@@ -1,11 +1,7 @@
-use Rattle.std.proofs.Common.{◌≡◌, length, sum_by, ap, rules, arith}
+use Rattle.std.proofs.Common.{rules}
 use Rattle.std.proofs.iter.runs.Made.{chains}
-use Rattle.rows.specs.Bindings.{of_kind}
-use Rattle.rows.proofs.Figures.{held_to, sum_by-held_to}
+use Rattle.rows.proofs.Totals.{kind_small}
 use Rattle.rows.proofs.bindings.Bindings.count_of.Goals as goal
 
-pub returns-clause-small : goal.returns-clause-small
-returns-clause-small c =
-    let list = c.args.self.now.list.items in
-    let is : c.sum.result ≡ sum_by (held_to 4294967295 (of_kind c.args.kind)) list = search (rules, chains) in
-    omega (arith, sum_by-held_to 4294967295 (of_kind c.args.kind) list, ap length c.deref.ensures.0, c.deref.ensures.1)
+pub sum-requires-clause-fits : goal.sum-requires-clause-fits
+sum-requires-clause-fits c = let small = kind_small c.args.self.now c.args.kind in search (rules, chains)

@@ -2,7 +2,7 @@ use Rattle.std.proofs.Common.{rules}
 use Rattle.conversion.specs.Counts.{count_of}
 use Rattle.rows.specs.Bindings.{kind_count, at_most}
 use Rattle.rows.specs.Holdings.{bindings_at}
-use Rattle.rows.proofs.Counts.{counts-by}
+use Rattle.conversion.proofs.Sums.{counts-by}
 use Rattle.rows.proofs.holdings.Holdings.counts.Goals as goal
 
 pub returns : goal.returns

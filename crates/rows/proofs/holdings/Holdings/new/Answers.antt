@@ -1,7 +1,7 @@
 use Rattle.std.proofs.Common.{ap, arith}
 use native.Mathlib.Decide.{dec_lt}
 use Rattle.std.proofs.lemmas.List.{get_or_past}
-use Rattle.rows.specs.Bindings.{list_of}
+use Rattle.rows.specs.Lists.{list_of}
 use Rattle.rows.specs.Holdings.{no_bindings}
 use Rattle.rows.proofs.holdings.Holdings.new.Goals as goal
 
