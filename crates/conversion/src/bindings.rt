@@ -20,7 +20,7 @@ const LAYOUT_UPDATE_AFTER_BIND_POOL: u32 = 2;
 // VkDescriptorPoolCreateFlagBits
 const POOL_FREE_DESCRIPTOR_SET: u32 = 1;
 
-const POOL_UPDATE_AFTER_BIND: u32 = 2;
+pub const POOL_UPDATE_AFTER_BIND: u32 = 2;
 
 // A type that no key counts, for an entry that has no type.
 const UNCOUNTED_TYPE: u32 = 1;

@@ -1,6 +1,7 @@
 -- What is fixed, by what the code looks at.
 use Rattle.std.proofs.Common.{◌≡◌, ℕ, ℤ, Result, ◌+◌, ◌-◌, ◌<◌, ◌≤◌, true, false, ltb, leb, List, length, Some, Ok, Err, refl, arith}
 use Rattle.std.proofs.lemmas.Bool.Decides.{nat_tests}
+use Rattle.std.specs.Result.{result_or}
 use Rattle.conversion.specs.declared.bindings.DeviceBinding.{DeviceBinding}
 use Rattle.device.specs.Meaning.{sum_below}
 use Rattle.conversion.specs.declared.results.DeviceCall.{DeviceCall}
@@ -42,3 +43,8 @@ answered_ok c (Err n) h e = cc
 pub answered_err : (c : DeviceCall) (r : Result ℕ ℤ) (f : DeviceFault) → answered c r ≡ Err f → r ≡ Err f.result
 answered_err c (Ok k) f e = cc
 answered_err c (Err n) f e = cc
+
+-- what is there in spite of a refusal in its place was there
+pub or_err : {X E F : Type 0} (r : Result X E) (f : F) (x : X) → result_or {T = X} {E = E} {D = F} r (Err f) ≡ Ok x → r ≡ Ok x
+or_err (Ok y) f x e = cc
+or_err (Err n) f x e = cc

@@ -79,7 +79,9 @@ impl CountingDevice {
     ) -> Result<LayoutPlace, DeviceFault>
         ensures { MatchResult result (LayoutPlaced self.now bindings.now) (λ fault. answered Layout (fixed_layout self.now bindings.now) ≡ Err fault) }
     {
-        let bindings = Bindings::of(bindings).ok_or(Obstacle::NoHostMemory.to(DeviceCall::Layout))?;
+        let bindings = Bindings::try_from(bindings).or(Err(Obstacle::NoHostMemory.to(
+            DeviceCall::Layout,
+        )))?;
         let row = self
             .holdings
             .free_layout_row()

@@ -88,6 +88,7 @@ impl<T: Copy, const N: usize> Table<T, N> {
     pub fn change(&mut self, i: usize, value: T)
         ensures { slot_at self.new ≡ changed (slot_at self.old) i value }
     {
+        // no `get_mut`, here and in `clear`, since a proof knows nothing of the elements after it
         if i < N {
             self.rows[i] = with_value(self.rows[i], value);
         }

@@ -1,9 +1,9 @@
 // The bindings of a device layout.
-ghost use Rattle.std.specs.Prelude.{◌≡◌, ◌^◌, ◌<◌, ◌≤◌, [], length, MatchOption};
+ghost use Rattle.std.specs.Prelude.{◌≡◌, ◌^◌, ◌<◌, ◌≤◌, [], length, MatchResult};
 ghost use Rattle.std.specs.List.{slice_get};
 ghost use Rattle.rows.specs.Bindings.{of_kind, kind_count, total_of, start_of};
 
-use arrayvec::ArrayVec;
+use arrayvec::{ArrayVec, CapacityError};
 use conversion::bindings::DeviceBinding;
 use conversion::kinds::Kind;
 
@@ -20,6 +20,7 @@ pub struct Bindings {
     ghost small: { total < 2 ^ 37 },
 }
 
+// By hand, since a struct with a ghost field derives no `Default`.
 impl Default for Bindings {
     ghost use Rattle.rows.specs.Lists.{list_of};
 
@@ -30,6 +31,21 @@ impl Default for Bindings {
             list: ArrayVec::default(),
             total: 0,
         }
+    }
+}
+
+// A copy of a list, unless it is too long.
+impl TryFrom<&[DeviceBinding]> for Bindings {
+    ghost use Rattle.rows.specs.Lists.{list_of};
+
+    type Error = CapacityError;
+
+    ghost try_from_gives = { λ list r. MatchResult r (λ b. (length list.now ≤ 32) × (list_of b ≡ list.now)) (λ _. 32 < length list.now) };
+
+    fn try_from(list: &[DeviceBinding]) -> Result<Bindings, CapacityError> {
+        let list = ArrayVec::try_from(list)?;
+        let total = list.iter().map(|binding| binding.count as usize).sum();
+        Ok(Bindings { list, total })
     }
 }
 
@@ -46,15 +62,6 @@ fn of_kind(binding: &DeviceBinding, kind: Kind) -> u32
 
 impl Bindings {
     ghost use Rattle.rows.specs.Lists.{list_of};
-
-    // A copy of a list, unless it is too long.
-    pub fn of(list: &[DeviceBinding]) -> Option<Bindings>
-        ensures { MatchOption result (32 < length list.now) (λ b. (length list.now ≤ 32) × (list_of b ≡ list.now)) }
-    {
-        let list = ArrayVec::try_from(list).ok()?;
-        let total = list.iter().map(|binding| binding.count as usize).sum();
-        Some(Bindings { list, total })
-    }
 
     pub(crate) fn get(&self, i: usize) -> Option<DeviceBinding>
         ensures { result ≡ slice_get (list_of self.now) i }

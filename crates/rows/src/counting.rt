@@ -15,6 +15,7 @@ use conversion::bindings::DeviceBinding;
 use conversion::counts::DescriptorCounts;
 use conversion::kinds::{KINDS, Kind};
 
+// Two tests and no function over a closure, so that each has an equation for its contract.
 fn is_of_layout(slot: Option<Slot<SetRow>>, layout: usize) -> bool
     ensures { result ≡ names layout slot }
 {
@@ -70,7 +71,7 @@ impl Holdings {
 }
 
 impl Holdings {
-    // How many descriptors of a kind the layout in a row has.
+    // How many descriptors of a kind the layout in a row has. As with `total` and `start` one chain, of its own figure.
     fn kind_count(&self, layout: usize, kind: Kind) -> u64
         ensures { result ≡ kind_count kind (bindings_at self.now layout) }
     {

@@ -18,7 +18,8 @@ pub struct SetRow {
     pub layout: usize,
 }
 
-// A live layout has its flags in its row. The bindings beside them stay while a set of it lives.
+// Fixed tables, since nothing in a device call may allocate.
+// A live layout has its flags in its row. The bindings beside them stay while a set of it lives, so they are no part of it.
 #[derive(Drop)]
 pub struct Holdings {
     pub layouts: Table<u32, LAYOUT_ROWS>,

@@ -5,13 +5,11 @@ ghost use Rattle.device.specs.Meaning.{differs, size_of, size_counts, rememberin
 ghost use Rattle.device.specs.Calls.{invalid_sizes, invalid_pool, new_pool};
 ghost use Rattle.rows.specs.Pools.{live_pool};
 
+use conversion::bindings::POOL_UPDATE_AFTER_BIND;
 use conversion::counts::DescriptorCounts;
 use conversion::kinds::Kind;
 use device::records::PoolSize;
 use device::validity::is_invalid_pool;
-
-// VkDescriptorPoolCreateFlagBits
-const UPDATE_AFTER_BIND: u32 = 2;
 
 #[derive(Clone, Copy)]
 pub struct PoolRow {
@@ -20,15 +18,15 @@ pub struct PoolRow {
     pub updatable: bool,
     // the counts of the first set that was made in it
     pub first: Option<DescriptorCounts>,
-    // whether a later set had others
+    // whether a later set had others; beside `first` as in the device's meaning, which names both
     pub differed: bool,
 }
 
-// Whether a layout or a pool has the flag for update after bind.
+// Whether a layout or a pool has the flag for update after bind, one bit in both.
 fn is_after_bind(flags: u32) -> bool
     ensures { result ≡ after_bind flags }
 {
-    flags & UPDATE_AFTER_BIND != 0
+    flags & POOL_UPDATE_AFTER_BIND != 0
 }
 
 // Whether a set of a layout with these flags can't be asked of a pool.

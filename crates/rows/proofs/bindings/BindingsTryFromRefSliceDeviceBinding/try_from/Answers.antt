@@ -1,7 +1,7 @@
 use Rattle.std.proofs.Common.{◌≡◌, length, sum_by, ap, rules, arith}
 use Rattle.std.proofs.iter.runs.Made.{chains}
 use Rattle.rows.proofs.Figures.{held_to, sum_by-held_to}
-use Rattle.rows.proofs.bindings.Bindings.of.Goals as goal
+use Rattle.rows.proofs.bindings.BindingsTryFromRefSliceDeviceBinding.try_from.Goals as goal
 
 pub invariant_of-result : goal.invariant_of-result
 invariant_of-result c =
