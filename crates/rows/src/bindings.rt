@@ -7,7 +7,7 @@ use arrayvec::{ArrayVec, CapacityError};
 use conversion::bindings::DeviceBinding;
 use conversion::kinds::Kind;
 
-// The most bindings that a device layout can have here.
+// The most bindings that a device layout can have here: a limit of this device's, and not that of a layout's entries, though both are 32.
 pub const MAX_BINDINGS: usize = 32;
 
 // A list of bindings in a row of its own, and how many descriptors they have.

@@ -99,6 +99,7 @@ impl<T: Copy, const S: usize> Segments<T, S> {
     pub fn clear(&mut self, i: usize)
         ensures { Cleared self.old i self.new }
     {
+        // a test and no `get`, since three things are done under it
         if i < S {
             let start = self.start(i);
             let end = self.used();
