@@ -1,5 +1,5 @@
 -- What a table finds under a handle, as its rows change.
-use Rattle.std.proofs.Common.{◌≡◌, ℕ, zero, suc, ◌+◌, ◌<◌, ◌≤◌, Bool, true, false, cond, not, eqb, ltb, ◌⊎◌, List, [], ◌∷◌, ◌++◌, length, get_or, set, replicate, is_some, Some, None, Option, sym, refl, ap, ◌∙◌, subst, inl, inr, arith, length-set, get_or-set_other, get_or-set_same}
+use Rattle.std.proofs.Common.{◌≡◌, ℕ, zero, suc, ◌+◌, ◌<◌, Bool, true, false, cond, not, eqb, ltb, ◌⊎◌, List, [], ◌∷◌, ◌++◌, length, get_or, set, is_some, Some, None, Option, sym, refl, ap, ◌∙◌, subst, inl, inr, arith, length-set, get_or-set_other, get_or-set_same}
 use native.Mathlib.Decide.{dec_lt}
 use mathlib.Core.Path.{fun_ext}
 use Rattle.std.proofs.lemmas.List.{get_or_past}
@@ -11,7 +11,7 @@ use Rattle.std.specs.Map.{update}
 use Rattle.std.specs.Option.{option_or, option_map}
 use Rattle.conversion.proofs.Searches.{first_some, first_none, first_position, all_false}
 use Rattle.rows.specs.declared.slots.Slot.{Slot}
-use Rattle.rows.specs.Slots.{first_row, is_handle, share, Differ}
+use Rattle.rows.specs.Slots.{first_row, is_handle, share}
 use Rattle.rows.proofs.Truths.{met_at, and_three, nothing}
 use Rattle.rows.specs.declared.table.Table.{Table}
 use Rattle.rows.specs.Tables.{slot, slot_at, row_of, can_put, changed}
@@ -72,14 +72,6 @@ set_is rows i x lt = fun_ext (λ k. by k (met_at k i))
 pub set_whole : {X : Type 0} (rows : List X) (i n : ℕ) (x : X) → length rows ≡ n → length (set rows i x) ≡ n
 set_whole rows i n x e = length-set rows i x ∙ e
 
--- and past the last row
-pub set_past : {X : Type 0} (rows : List (Option X)) (i : ℕ) → length rows ≤ i → (λ k. get_or rows k None) ≡ update eqb (λ k. get_or rows k None) i None
-set_past rows i le = fun_ext (λ k. by k (met_at k i))
-  where
-    by : (k : ℕ) → ((eqb i k ≡ true) × (k ≡ i)) ⊎ ((eqb i k ≡ false) × (k ≡ i → ⊥)) → get_or rows k None ≡ update eqb (λ j. get_or rows j None) i None k
-    by k (inl (b, e)) = rw (b, e) (get_or_past rows i None le)
-    by k (inr (b, ne)) = rw b refl
-
 -- below the end of a list, what stands past it does not matter
 pub get_or_either : {X : Type 0} (xs : List X) (i : ℕ) (d e : X) → i < length xs → get_or xs i d ≡ get_or xs i e
 get_or_either [] i d e lt = absurd (omega arith)
@@ -108,17 +100,9 @@ module _ {T : Type 0} where
   pub same_apart : {a b : ℕ → Option (Slot T)} → a ≡ b → Apart b → Apart a
   same_apart e apart = subst Apart (sym e) apart
 
-  none_there : (n i : ℕ) → get_or {A = Option (Slot T)} (replicate n None) i None ≡ None
-  none_there zero i = refl
-  none_there (suc n) zero = refl
-  none_there (suc n) (suc i) = none_there n i
-
   -- a row whose value is changed
   pub changed_is : (rows : List (Option (Slot T))) (i : ℕ) (x : T) (d y : Option (Slot T)) → i < length rows → y ≡ option_map (λ s. slot s.handle x) (get_or rows i d) → (λ k. get_or (set rows i y) k None) ≡ changed (λ k. get_or rows k None) i x
   changed_is rows i x d y lt e = set_is rows i y lt ∙ ap (update eqb (λ k. get_or rows k None) i) (e ∙ ap (option_map (λ s. slot s.handle x)) (get_or_either rows i d None lt))
-
-  pub changed_past : (rows : List (Option (Slot T))) (i : ℕ) (x : T) → length rows ≤ i → (λ k. get_or rows k None) ≡ changed (λ k. get_or rows k None) i x
-  changed_past rows i x le = set_past rows i le ∙ ap (λ o. update eqb (λ k. get_or rows k None) i (option_map (λ s. slot s.handle x) o)) (sym (get_or_past rows i None le))
 
   -- the row that has a handle is found by it
   pub row_found : (rows : ℕ → Option (Slot T)) (n i h : ℕ) → Apart rows → i < n → is_handle h (rows i) ≡ true → found rows n h ≡ Some i
@@ -175,11 +159,6 @@ module _ {T : Type 0} where
         by (inl (p, p')) = let q : ◌≡◌ {A = Bool} false true = rw p at e in absurd (let y : ◌≡◌ {A = ℕ} 0 1 = cc in omega arith)
         by (inr (p, p')) = (p', rw p at e)
 
-    pub clear_apart : Apart rows → Apart (update eqb rows i None)
-    clear_apart apart a b e =
-        let s = shared_handle (update eqb rows i None a) (update eqb rows i None b) e in
-        apart a b (is_shared s.0 (rows a) (rows b) (at_cleared s.0 a s.1).1 (at_cleared s.0 b s.2).1)
-
     pub clear_found : (n h : ℕ) → Apart rows → is_handle h (rows i) ≡ true → (λ q. found (update eqb rows i None) n q) ≡ update eqb (λ q. found rows n q) h None
     clear_found n h apart here = fun_ext (λ q. by q (met_at q h))
       where
@@ -218,10 +197,6 @@ module _ {T : Type 0} where
   change_apart rows i x apart a b e =
       let s = shared_handle (changed rows i x a) (changed rows i x b) e in
       apart a b (is_shared s.0 (rows a) (rows b) (sym (change_handle rows i x s.0 a) ∙ s.1) (sym (change_handle rows i x s.0 b) ∙ s.2))
-
--- unused rows
-pub none_apart : (T : Type 0) (n : ℕ) → Differ {T = T} (replicate n None)
-none_apart T n i j e = let s = ap (λ o. share o (get_or (replicate n None) j None)) (none_there {T = T} n i) in let z : ◌≡◌ {A = ℕ} 0 1 = cc in absurd (omega arith)
 
 -- what a row that can be put tells
 module _ {T : Type 0} {n : ℕ} (t : Table T n) (i h : ℕ) (can : true ≡ can_put t i h) where

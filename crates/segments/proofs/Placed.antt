@@ -142,21 +142,6 @@ none_lengths s = fun_ext (none_at s)
 pub none_used : (s n : ℕ) → start_in (none s) s ≤ n
 none_used s n = omega (arith, ap (sum_below s) (none_lengths s), below_none s (λ i. 0) (λ h. refl))
 
-pub none_held : {T : Type 0} (s : ℕ) (xs : List (Option T)) (i j : ℕ) → element_in (none s) xs i j ≡ None
-none_held s xs i j =
-    let past : (x : Option _) → cond (ltb j 0) x None ≡ None = λ x. grind (arith, nat_tests) in
-    ap (λ f. element_by f xs i j) (none_lengths s) ∙ past _
-
 -- what it says that a segment can be made
 pub makeable : {T : Type 0} {S : ℕ} (s : Segments T S) (i n : ℕ) → true ≡ can_make s i n → (i < S) × (length_at s i ≡ 0) × (used s + n ≤ size s)
 makeable s i n e = (grind (arith, nat_tests), grind (arith, nat_tests), grind (arith, nat_tests))
-
--- a segment that is not there stays empty
-pub no_lengths : (ls : List ℕ) (i : ℕ) → length ls ≤ i → length_in ls ≡ changed_at (length_in ls) i 0
-no_lengths ls i l =
-    let p = get_or_past ls i 0 l in
-    let at : (k : ℕ) → length_in ls k ≡ changed_at (length_in ls) i 0 k = λ k. grind (arith, nat_tests) in
-    fun_ext at
-
-pub no_elements : {T : Type 0} (ls : List ℕ) (i : ℕ) → length ls ≤ i → (xs : List (Option T)) (k m : ℕ) → element_in ls xs k m ≡ cond (eqb k i) None (element_in ls xs k m)
-no_elements ls i l xs k m = let p = get_or_past ls i 0 l in grind (arith, nat_tests)

@@ -1,7 +1,7 @@
 use Rattle.std.proofs.Common.{refl, ◌∙◌, arith, length-set}
 use Rattle.segments.specs.Places.{length_in}
 use Rattle.segments.proofs.Sums.{sum_within}
-use Rattle.segments.proofs.Placed.{changed, lowered, used_after, no_lengths, no_elements}
+use Rattle.segments.proofs.Placed.{changed, lowered, used_after}
 use Rattle.segments.proofs.Segments.clear.Goals as goal
 
 pub lower-requires : goal.lower-requires
@@ -22,13 +22,4 @@ returns-then-i g c =
       lengths = changed s.lengths g.row.S c.args.i s.all c.if-i.true 0;
       size = refl {a = s.records.len};
       elements = lowered s.lengths g.row.S c.args.i s.all c.if-i.true _ s.records c.lower.new.records _ _ c.deref_mut.ensures.value (omega arith) c.start-start.ensures c.used-end.ensures c.lower.ensures;
-    }
-
-pub returns-else-i : goal.returns-else-i
-returns-else-i g c =
-    let s = c.args.self.now in
-    record {
-      lengths = no_lengths s.lengths c.args.i (omega arith);
-      size = refl {a = s.records.len};
-      elements = no_elements s.lengths c.args.i (omega arith) s.records.items;
     }

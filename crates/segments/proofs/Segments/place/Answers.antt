@@ -5,11 +5,6 @@ use Rattle.segments.proofs.Sums.{sum_within}
 use Rattle.segments.proofs.Placed.{there}
 use Rattle.segments.proofs.Segments.place.Goals as goal
 
-pub start-requires : goal.start-requires
-start-requires g c =
-    let l = there c.args.self.now.lengths c.args.i c.args.j (omega arith) in
-    omega arith
-
 pub overflow_add-result : goal.overflow_add-result
 overflow_add-result g c =
     let ls = c.args.self.now.lengths in

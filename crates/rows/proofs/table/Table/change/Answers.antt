@@ -1,5 +1,5 @@
 use Rattle.std.proofs.Common.{arith}
-use Rattle.rows.proofs.Found.{changed_is, changed_past, set_whole, change_apart, same_apart}
+use Rattle.rows.proofs.Found.{changed_is, set_whole, change_apart, same_apart}
 use Rattle.rows.specs.Tables.{slot_at}
 use Rattle.rows.proofs.table.Table.change.Goals as goal
 
@@ -15,6 +15,3 @@ invariant_of-self g c =
 
 pub returns-then-i : goal.returns-then-i
 returns-then-i g c = changed_is c.args.self.now.rows c.args.i c.args.value c.index-self-i.result c.with_value.result (omega arith) c.with_value.ensures
-
-pub returns-else-i : goal.returns-else-i
-returns-else-i g c = changed_past c.args.self.now.rows c.args.i c.args.value (omega (arith, c.args.self.now.whole))
