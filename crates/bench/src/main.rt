@@ -8,6 +8,7 @@ use layouts::run_program;
 use std::io;
 use std::process::ExitCode;
 
+// Whole, as it is printed, though the rehearsal's has some of its lines.
 const USAGE: &str = "usage: bench < SCRIPT
 
 Reads layouts from standard input and prints, for each, what the device would be

@@ -1,4 +1,4 @@
-// What is printed of a layout. It is of conversion's types, for which no `impl Display` can stand here.
+// What is printed of a layout. By functions: a type of this crate round each of conversion's, for its `Display`, would be longer.
 use conversion::bindings::{DeviceBinding, device_bindings, layout_flags};
 use conversion::checks::check_layout;
 use conversion::counts::BucketKey;

@@ -91,6 +91,10 @@ external es i = is_external (slice_index_or es i no_entry).kind
 abbrev pub overfull : List LayoutEntry → ℕ → Bool
 overfull es i = nat_lt 4294967295 (sum_by entry_count (take (suc i) es))
 
+-- what a test answers: the refusal that it finds, or none
+abbrev pub Finds : {X F : Type 0} → Option F → Result X F → Type 0
+Finds o r = MatchResult r (λ _. o ≡ None) (λ f. o ≡ Some f)
+
 -- refusal 1: there are more than 32 entries
 abbrev pub too_many : List LayoutEntry → Option LayoutFault
 too_many es = cond (nat_lt 32 (length es)) (Some fault.TooManyEntries) None

@@ -88,6 +88,7 @@ pub fn device_bindings(
 ) -> ArrayVec<DeviceBinding, MAX_ENTRIES>
     ensures { result.items ≡ device_bindings partially_bound (take 32 entries.now) }
 {
+    // a loop, since `collect` into an `ArrayVec` asks for an allocator and can fail
     let mut bindings = ArrayVec::new();
     for entry in &entries[..entries.len().min(MAX_ENTRIES)] {
         bindings.push(entry.device_binding(partially_bound));

@@ -1,17 +1,17 @@
 // The refusals of a layout's entries, in the order of their numbers.
 ghost use Rattle.std.specs.Prelude.{◌≡◌, Some, None, MatchResult};
 ghost use Rattle.std.specs.List.{position};
-ghost use Rattle.conversion.specs.Layouts.{is_external, counts_of, has_array, too_many, misordered, with_external, overflowing, layout_answer, Judged};
+ghost use Rattle.conversion.specs.Layouts.{is_external, Finds, counts_of, has_array, too_many, misordered, with_external, overflowing, layout_answer, Judged};
 
 use crate::counts::{BucketKey, DescriptorCounts};
 use crate::entries::LayoutEntry;
 use crate::faults::LayoutFault;
 
-// The most entries that a layout can have.
+// The most entries that a layout can have. The device's own limit is another, though both are 32.
 pub const MAX_ENTRIES: usize = 32;
 
 fn check_length(entries: &[LayoutEntry]) -> Result<(), LayoutFault>
-    ensures { MatchResult result (λ _. too_many entries.now ≡ None) (λ f. too_many entries.now ≡ Some f) }
+    ensures { Finds (too_many entries.now) result }
 {
     if entries.len() > MAX_ENTRIES {
         Err(LayoutFault::TooManyEntries)
@@ -21,8 +21,9 @@ fn check_length(entries: &[LayoutEntry]) -> Result<(), LayoutFault>
 }
 
 fn check_order(entries: &[LayoutEntry]) -> Result<(), LayoutFault>
-    ensures { MatchResult result (λ _. misordered entries.now ≡ None) (λ f. misordered entries.now ≡ Some f) }
+    ensures { Finds (misordered entries.now) result }
 {
+    // a loop, since of a search over `windows` the proof did not close
     let mut before: Option<u32> = None;
     for (i, e) in entries.iter().enumerate() {
         if before.is_some_and(|binding| e.binding <= binding) {
@@ -40,7 +41,7 @@ fn first_external(entries: &[LayoutEntry]) -> Option<usize>
 }
 
 fn check_kinds(entries: &[LayoutEntry]) -> Result<(), LayoutFault>
-    ensures { MatchResult result (λ _. with_external entries.now ≡ None) (λ f. with_external entries.now ≡ Some f) }
+    ensures { Finds (with_external entries.now) result }
 {
     match first_external(entries) {
         Some(entry) => Err(LayoutFault::ExternalTexture { entry }),
@@ -52,6 +53,7 @@ fn check_kinds(entries: &[LayoutEntry]) -> Result<(), LayoutFault>
 fn count_descriptors(entries: &[LayoutEntry]) -> Result<DescriptorCounts, LayoutFault>
     ensures { MatchResult result (λ counts. (counts ≡ counts_of entries.now) × (overflowing entries.now ≡ None)) (λ f. overflowing entries.now ≡ Some f) }
 {
+    // a loop, since two sums go along, and `let .. else`, since of `ok_or(..)?` the proof did not close
     let mut counts = DescriptorCounts::default();
     let mut total: u32 = 0;
     for (i, e) in entries.iter().enumerate() {

@@ -60,7 +60,7 @@ impl DescriptorCounts {
         }
     }
 
-    // One entry more. The caller keeps the total within 32 bits.
+    // One entry more, an arm for each field that changes. The caller keeps the total within 32 bits.
     pub(crate) fn add_entry(&mut self, entry: &LayoutEntry)
         requires { total self.old + entry_count entry.now < 2 ^ 32 }
         ensures { self.new ≡ counting self.old entry.now }
@@ -79,7 +79,7 @@ impl DescriptorCounts {
         }
     }
 
-    // All descriptors together. Eight 32-bit numbers fit.
+    // All descriptors together. Eight 32-bit numbers fit; term by term, since of their sum over `KINDS` that stayed open.
     pub fn total(&self) -> u64
         ensures { result ≡ total self.now }
     {

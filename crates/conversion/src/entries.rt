@@ -5,7 +5,7 @@ ghost use Rattle.conversion.specs.Layouts.{is_array, entry_count};
 use crate::kinds::EntryKind;
 
 // One entry of a layout. An array size of 0 says that it is no array; one of 1 is an array of one.
-// Stays a number: an entry's four numbers are the form in which layouts are exchanged, and as an `Option` it would have a size of 0 beside none.
+// It stays a number: the rules give an entry an array size of 32 bits, in which 0 says none.
 #[derive(Clone, Copy, Debug, PartialEq, Eq)]
 pub struct LayoutEntry {
     pub binding: u32,

@@ -34,6 +34,7 @@ impl EntryKind {
     }
 }
 
+// In key order: a constant table, by the project's rule, as those of numbers.
 pub const KINDS: [Kind; 8] = [
     Kind::Sampler,
     Kind::SampledImage,
@@ -49,7 +50,7 @@ pub const KINDS: [Kind; 8] = [
 const TYPE_NUMBERS: [u32; 8] = [0, 2, 3, 6, 8, 7, 9, 1000150000];
 
 impl Kind {
-    // The place in key order, from 0. A method, since `usize::from` would not say which of a kind's two numbers it is.
+    // The place in key order, from 0; a method, so that the place is named where it is used.
     pub fn place(self) -> usize
         ensures is { result ≡ place self }
         ensures bound { result < 8 }
@@ -64,6 +65,7 @@ impl Kind {
         KINDS.get(place).copied()
     }
 
+    // apart from `try_from`, since of the chain within it the proof did not close
     fn of_type(number: u32) -> Option<Kind>
         ensures { result ≡ kind_of_type number }
     {

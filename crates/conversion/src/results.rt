@@ -62,6 +62,7 @@ const ERROR_OUT_OF_DEVICE_MEMORY: i32 = -2;
 
 const ERROR_FRAGMENTATION: i32 = -1000161000;
 
+// The crate's two mappings under their names, and one over both: a result means something only of a call.
 pub fn map_host_device_oom_err(res: i32) -> DeviceError
     ensures { result ≡ plain_error res }
 {

@@ -38,7 +38,7 @@ impl From<Obstacle> for i32 {
 
 impl Obstacle {
     // The refusal of the call.
-    pub(crate) fn to(self, call: DeviceCall) -> DeviceFault
+    pub(crate) fn fault(self, call: DeviceCall) -> DeviceFault
         ensures { result ≡ record { call = call; result = result_of self } }
     {
         DeviceFault {
@@ -68,7 +68,7 @@ impl CountingDevice {
         if self.last < u64::MAX {
             Ok(self.last + 1)
         } else {
-            Err(Obstacle::NoHostMemory.to(call))
+            Err(Obstacle::NoHostMemory.fault(call))
         }
     }
 
@@ -79,13 +79,13 @@ impl CountingDevice {
     ) -> Result<LayoutPlace, DeviceFault>
         ensures { MatchResult result (LayoutPlaced self.now bindings.now) (λ fault. answered Layout (fixed_layout self.now bindings.now) ≡ Err fault) }
     {
-        let bindings = Bindings::try_from(bindings).or(Err(Obstacle::NoHostMemory.to(
+        let bindings = Bindings::try_from(bindings).map_err(|_| Obstacle::NoHostMemory.fault(
             DeviceCall::Layout,
-        )))?;
+        ))?;
         let row = self
             .holdings
             .free_layout_row()
-            .ok_or(Obstacle::NoHostMemory.to(DeviceCall::Layout))?;
+            .ok_or(Obstacle::NoHostMemory.fault(DeviceCall::Layout))?;
         let handle = self.next_handle(DeviceCall::Layout)?;
         Ok(LayoutPlace {
             place: Place { row, handle },
@@ -101,7 +101,7 @@ impl CountingDevice {
             .holdings
             .pools
             .unused_row()
-            .ok_or(Obstacle::NoHostMemory.to(DeviceCall::Pool))?;
+            .ok_or(Obstacle::NoHostMemory.fault(DeviceCall::Pool))?;
         let handle = self.next_handle(DeviceCall::Pool)?;
         Ok(Place { row, handle })
     }
@@ -114,10 +114,10 @@ impl CountingDevice {
             .holdings
             .sets
             .unused_row()
-            .ok_or(Obstacle::NoHostMemory.to(DeviceCall::Set))?;
+            .ok_or(Obstacle::NoHostMemory.fault(DeviceCall::Set))?;
         let handle = self.next_handle(DeviceCall::Set)?;
         if total > self.records.size() - self.records.used() {
-            return Err(Obstacle::NoDeviceMemory.to(DeviceCall::Set));
+            return Err(Obstacle::NoDeviceMemory.fault(DeviceCall::Set));
         }
         Ok(Place { row, handle })
     }
@@ -128,6 +128,6 @@ impl CountingDevice {
         ensures marked { Marked self.old self.new }
     {
         self.mark = true;
-        obstacle.to(call)
+        obstacle.fault(call)
     }
 }

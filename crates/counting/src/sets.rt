@@ -7,6 +7,7 @@ ghost use Rattle.counting.specs.Steps.{in_pool_at, Removed, AllRemoved, PutAt, F
 
 use crate::counting::CountingDevice;
 use device::records::{Descriptor, Records, Write};
+use rows::counting::is_of_pool;
 use rows::holdings::SET_ROWS;
 use segments::Segments;
 
@@ -21,8 +22,7 @@ impl CountingDevice {
     fn is_in_pool(&self, row: usize, pool: u64) -> bool
         ensures { result ≡ in_pool_at self.now pool row }
     {
-        let set = self.holdings.sets.slot(row);
-        set.is_some_and(|set| set.value.pool == pool)
+        is_of_pool(self.holdings.sets.slot(row), pool)
     }
 
     pub(crate) fn remove_sets_of(&mut self, pool: u64)
@@ -69,7 +69,7 @@ fn put(
     }
 }
 
-// Puts the descriptors of a write into a segment, from a start on.
+// Puts the descriptors of a write into a segment, from a start on. The bound is of a plain number, which has no type of its own to keep it.
 fn fill(
     segments: &mut Segments<Descriptor, SET_ROWS>,
     row: usize,

@@ -66,6 +66,7 @@ impl<T: Drop> From<AllocFailed<T>> for LineError {
     }
 }
 
+// No `From`, since it asks for memory.
 fn name_of(heap: Global, line: &str, name: Span) -> Result<String, AllocError> {
     let Span { start, end } = name;
     let text = line.get(start..end).unwrap_or("?");

@@ -18,6 +18,7 @@ use std::io;
 // How many descriptors the device has room for.
 const ROOM: usize = 1024;
 
+// A look-up, since the names are of the script and not of the kind.
 fn kind_name(kind: Kind) -> &'static str {
     KIND_NAMES[kind.place()]
 }
@@ -37,7 +38,7 @@ fn print_answer(rt: &impl Print, answer: Result<u64, DeviceFault>) -> io::Result
     Ok(answer.ok())
 }
 
-// A function, as an `impl Display` of the device's own type can't stand here.
+// Functions, here and below: a type of this crate round each value, for its `Display`, would be longer.
 fn print_descriptor(rt: &impl Print, descriptor: &Descriptor) -> io::Result<()> {
     let name = kind_name(descriptor.kind);
     match descriptor.content {

@@ -16,9 +16,9 @@ const BUFFER_RANGE: u64 = 256;
 #[derive(Drop)]
 pub(crate) struct Sample {
     pub(crate) writes: Vec<Write>,
-    pub(crate) images: Vec<ImageRecord>,
-    pub(crate) buffers: Vec<BufferRecord>,
-    pub(crate) accelerations: Vec<AccelerationRecord>,
+    images: Vec<ImageRecord>,
+    buffers: Vec<BufferRecord>,
+    accelerations: Vec<AccelerationRecord>,
 }
 
 fn image_of(kind: Kind, resource: u64) -> ImageRecord {

@@ -72,7 +72,8 @@ impl<T: Copy, const N: usize> Table<T, N> {
         i < N && self.slot(i).is_none() && self.row_of(handle).is_none()
     }
 
-    // Puts a value under a handle into an unused row; refuses a handle that stands already.
+    // Puts a value under a handle into an unused row, and answers whether it did: not if the handle stands already.
+    // A yes or no, as of std's `insert`, since there is nothing to say beside it.
     pub fn put(&mut self, i: usize, handle: u64, value: T) -> bool
         ensures answer { result ≡ can_put self.old i handle }
         ensures rows { slot_at self.new ≡ (if result then update nat_eq (slot_at self.old) i (Some (slot handle value)) else slot_at self.old) }

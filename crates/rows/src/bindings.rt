@@ -6,6 +6,7 @@ ghost use Rattle.rows.specs.Bindings.{of_kind, kind_count, total_of, start_of};
 use arrayvec::{ArrayVec, CapacityError};
 use conversion::bindings::DeviceBinding;
 use conversion::kinds::Kind;
+use std::alloc::AllocError;
 
 // The most bindings that a device layout can have here: a limit of this device's, and not that of a layout's entries, though both are 32.
 pub const MAX_BINDINGS: usize = 32;
@@ -31,6 +32,24 @@ impl Default for Bindings {
             list: ArrayVec::default(),
             total: 0,
         }
+    }
+}
+
+// No `Copy`, since its list has none.
+impl Clone for Bindings {
+    ghost use Rattle.std.specs.Prelude.{⊤};
+    ghost use Rattle.rows.specs.Lists.{list_of};
+
+    ghost is_clone = { λ b c. list_of c ≡ list_of b };
+
+    ghost is_infallible = { λ _. ⊤ };
+
+    fn clone(&self) -> Result<Self, AllocError> {
+        let list = self.list.clone()?;
+        Ok(Bindings {
+            list,
+            total: self.total,
+        })
     }
 }
 

@@ -22,7 +22,7 @@ fn is_of_layout(slot: Option<Slot<SetRow>>, layout: usize) -> bool
     slot.is_some_and(|set| set.value.layout == layout)
 }
 
-fn is_of_pool(slot: Option<Slot<SetRow>>, pool: u64) -> bool
+pub fn is_of_pool(slot: Option<Slot<SetRow>>, pool: u64) -> bool
     ensures { result ≡ is_of_pool pool slot }
 {
     slot.is_some_and(|set| set.value.pool == pool)
@@ -71,7 +71,7 @@ impl Holdings {
 }
 
 impl Holdings {
-    // How many descriptors of a kind the layout in a row has. As with `total` and `start` one chain, of its own figure.
+    // How many descriptors of a kind the layout in a row has. With `total` and `start` three of one form: a function over the figure would be as long as each.
     fn kind_count(&self, layout: usize, kind: Kind) -> u64
         ensures { result ≡ kind_count kind (bindings_at self.now layout) }
     {

@@ -4,7 +4,7 @@ ghost use Rattle.rows.specs.Slots.{Differ};
 
 use crate::slots::Slot;
 
-// Rows by their handles; no handle stands in two.
+// Rows by their handles; no handle stands in two. A fixed table and no map, since nothing in a device call may allocate.
 #[derive(Drop)]
 pub struct Table<T, const N: usize> {
     pub(crate) rows: [Option<Slot<T>>; N],

@@ -17,7 +17,7 @@ pub const KIND_NAMES: [&str; 8] = [
     "acceleration-structure",
 ];
 
-// By stage bit.
+// By stage bit; constant tables both, by the project's rule.
 pub const STAGE_NAMES: [&str; 9] = [
     "vertex",
     "fragment",
@@ -56,7 +56,7 @@ pub fn kind_named(word: &[u8]) -> Option<EntryKind>
         .map(EntryKind::Descriptor)
 }
 
-// The bit of the stage.
+// The bit of the stage; a function as `kind_named` is.
 pub fn stage_named(word: &[u8]) -> Option<u32>
     ensures { result ≡ stage_named word.now }
 {

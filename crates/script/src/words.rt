@@ -19,7 +19,7 @@ fn is_blank(byte: u8) -> bool
     byte == b' ' || byte == b'\t' || byte == b'\r'
 }
 
-// How many blanks stand at the start.
+// How many blanks stand at the start. Beside `word_length`, as the two tests have two words of std in their contracts.
 fn blank_count(bytes: &[u8]) -> usize
     ensures count { result ≡ prefix_len is_blank bytes.now }
     ensures bound { result ≤ length bytes.now }
@@ -91,7 +91,7 @@ pub(crate) fn bytes_of(text: &[u8], span: Span) -> &[u8]
 pub fn decimal(word: &[u8]) -> Option<u32>
     ensures { result ≡ decimal_of word.now }
 {
-    // No `str::parse`, which takes a plus sign too.
+    // a loop and no `str::parse`, which takes a plus sign too and wants text, while a line is bytes
     let mut value: u64 = 0;
     for byte in word {
         if !byte.is_ascii_digit() {

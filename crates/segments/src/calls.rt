@@ -64,7 +64,7 @@ impl<T: Copy, const S: usize> Segments<T, S> {
         self.records[place]
     }
 
-    // Writes element j of segment i, if it is there, and answers whether it is.
+    // Writes element j of segment i, if it is there, and answers whether it is; a yes or no says it all, here and in `make`.
     pub fn write(&mut self, i: usize, j: usize, x: T) -> bool
         ensures { Written self.old i j x result self.new }
     {

@@ -10,7 +10,7 @@ returns-then-total-size c =
     let row = sym c.unused_row.ensures ∙ c.in_ok-row.ensures.ok_part in
     let next = answered_ok Set (next_handle c.args.self.now) c.in_ok-handle.handle (sym c.next_handle.ensures ∙ c.in_ok-handle.was) in
     ap (answered Set) (set_refused c.args.self.now c.args.total c.in_ok-row.row c.in_ok-handle.handle row next c.args.self.now.records.fits (omega (arith, c.size.ensures, c.used.ensures, c.if-total-size.true)))
-    ∙ ap Err (sym c.to-then-total-size.ensures)
+    ∙ ap Err (sym c.fault-then-total-size.ensures)
 
 pub returns : goal.returns
 returns c =
