@@ -1,4 +1,5 @@
 // The accepted layouts on the counting device: each is made, used for one set, and destroyed again.
+// Values of other crates are printed by functions: a type of this crate round each, for its `Display`, would be longer.
 use crate::sample::Sample;
 use conversion::bindings::{DeviceBinding, device_bindings, layout_flags, pool_flags};
 use conversion::checks::check_layout;
@@ -38,7 +39,6 @@ fn print_answer(rt: &impl Print, answer: Result<u64, DeviceFault>) -> io::Result
     Ok(answer.ok())
 }
 
-// Functions, here and below: a type of this crate round each value, for its `Display`, would be longer.
 fn print_descriptor(rt: &impl Print, descriptor: &Descriptor) -> io::Result<()> {
     let name = kind_name(descriptor.kind);
     match descriptor.content {
