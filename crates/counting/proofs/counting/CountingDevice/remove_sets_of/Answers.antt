@@ -1,5 +1,5 @@
-use Rattle.std.proofs.Common.{◌+◌, sym, subst, arith}
-use Rattle.counting.proofs.Places.{Through, through_cleared, through_kept, through_all}
+use Rattle.std.proofs.Common.{◌+◌, sym, subst}
+use Rattle.counting.proofs.Places.{Through, through_cleared, through_kept}
 use Rattle.counting.proofs.counting.CountingDevice.remove_sets_of.Goals as goal
 use Rattle.counting.proofs.counting.CountingDevice.remove_sets_of.Goals.{then-is_in_pool, else-is_in_pool}
 
@@ -12,6 +12,3 @@ loop-row-preserved c =
       | then-is_in_pool w ↦ subst (Through d p (row + 1)) (sym w.self-is) (through_cleared d p row c.loop-row.self c.loop-row.invariant w.remove_set.new.self w.remove_set.ensures w.if-is_in_pool.ensures)
       | else-is_in_pool w ↦ subst (Through d p (row + 1)) (sym w.self-is) (through_kept d p row c.loop-row.self c.loop-row.invariant w.if-is_in_pool.ensures)
     ]
-
-pub returns : goal.returns
-returns c = through_all c.args.self.now c.args.pool c.loop-row.row c.loop-row.self c.loop-row.invariant (omega arith)
