@@ -1,8 +1,6 @@
 -- What is fixed, by what the code looks at.
-use Rattle.std.proofs.Common.{◌≡◌, ℕ, ℤ, Result, ◌+◌, ◌-◌, ◌<◌, ◌≤◌, true, false, ltb, leb, List, length, Some, Ok, Err, refl, arith}
+use Rattle.std.proofs.Common.{◌≡◌, ℕ, ℤ, Result, ◌+◌, ◌-◌, ◌<◌, ◌≤◌, true, false, ltb, Some, Ok, Err, refl, arith}
 use Rattle.std.proofs.lemmas.Bool.Decides.{nat_tests}
-use Rattle.std.specs.Result.{result_or}
-use Rattle.conversion.specs.declared.bindings.DeviceBinding.{DeviceBinding}
 use Rattle.device.specs.Meaning.{sum_below}
 use Rattle.conversion.specs.declared.results.DeviceCall.{DeviceCall}
 use Rattle.device.specs.declared.faults.DeviceFault.{DeviceFault}
@@ -10,12 +8,9 @@ use Rattle.device.specs.Results.{no_device_memory, answered}
 use Rattle.device.proofs.Below.{below_same}
 use Rattle.segments.specs.Segments.{length_at, used, size}
 use Rattle.rows.specs.Tables.{unused_row}
-use Rattle.rows.specs.Holdings.{free_layout_row, total_at}
+use Rattle.rows.specs.Holdings.{total_at}
 use Rattle.counting.specs.declared.counting.CountingDevice.{CountingDevice}
-use Rattle.counting.specs.Counting.{next_handle, fixed_layout, fixed_set}
-
-pub layout_fixed_lem : (d : CountingDevice) (bs : List DeviceBinding) (row h : ℕ) → length bs ≤ 32 → free_layout_row d.holdings ≡ Some row → next_handle d ≡ Ok h → fixed_layout d bs ≡ Ok h
-layout_fixed_lem d bs row h short free next = let b : leb (length bs) 32 ≡ true = grind (arith, nat_tests) in rw (b, free, next) refl
+use Rattle.counting.specs.Counting.{next_handle, fixed_set}
 
 -- what is used is what live sets have
 pub used_is : (d : CountingDevice) → used d.records ≡ sum_below 1024 (total_at d.holdings)
@@ -43,8 +38,3 @@ answered_ok c (Err n) h e = cc
 pub answered_err : (c : DeviceCall) (r : Result ℕ ℤ) (f : DeviceFault) → answered c r ≡ Err f → r ≡ Err f.result
 answered_err c (Ok k) f e = cc
 answered_err c (Err n) f e = cc
-
--- what is there in spite of a refusal in its place was there
-pub or_err : {X E F : Type 0} (r : Result X E) (f : F) (x : X) → result_or {T = X} {E = E} {D = F} r (Err f) ≡ Ok x → r ≡ Ok x
-or_err (Ok y) f x e = cc
-or_err (Err n) f x e = cc

@@ -1,7 +1,7 @@
 -- Sets made and removed.
-use Rattle.std.proofs.Common.{◌≡◌, ℕ, ◌+◌, ◌<◌, ◌≤◌, Bool, true, false, cond, ◌&&◌, eqb, ltb, leb, ◌⊎◌, List, get_or, is_some, Some, None, Option, sym, refl, ap, ◌∙◌, ap₂, inl, inr, arith}
+use Rattle.std.proofs.Common.{◌≡◌, ℕ, ◌+◌, Bool, true, false, cond, ◌&&◌, eqb, ltb, ◌⊎◌, List, get_or, is_some, Some, None, Option, sym, refl, ap, ◌∙◌, ap₂, inl, inr, arith}
 use mathlib.Core.Path.{fun_ext}
-use Rattle.std.proofs.lemmas.Bool.Decides.{nat_tests, eqb_tells, leb_tells}
+use Rattle.std.proofs.lemmas.Bool.Decides.{nat_tests, eqb_tells}
 use Rattle.std.specs.Map.{update}
 use Rattle.std.specs.List.{slice_get}
 use Rattle.std.specs.Option.{option_map, option_flatten}
@@ -10,7 +10,6 @@ use Rattle.device.specs.declared.records.Descriptor as kept
 use Rattle.device.specs.Stored.{described}
 use Rattle.device.specs.Meaning.{LiveSet}
 use Rattle.device.specs.Calls.{outside}
-use Rattle.std.proofs.lemmas.List.{get_or_past}
 use Rattle.segments.specs.Places.{changed_at}
 use Rattle.segments.specs.Segments.{length_at}
 use Rattle.rows.specs.declared.slots.Slot.{Slot}
@@ -28,7 +27,7 @@ use Rattle.rows.proofs.Meant.{found_clear, found_kept, found_used}
 use Rattle.counting.specs.declared.counting.CountingDevice.{CountingDevice}
 use Rattle.counting.specs.Steps.{in_pool_at, SameRest, Removed, AllRemoved}
 use Rattle.counting.specs.Counting.{stored, sets_of, Records, elements, written_in, live_of, live_in}
-use Rattle.rows.proofs.Truths.{and_false, eqb_turned}
+use Rattle.rows.proofs.Truths.{eqb_turned}
 use Rattle.counting.proofs.Made.{slot_here, slot_apart}
 
 -- a record cleared, or not, and what it says
@@ -90,13 +89,6 @@ module _ {Y : Type 0} (none : Y) (f g : ℕ → Y) (b : ℕ → Bool) (row : ℕ
       by (inl (q, e)) = rw (e, here, before, left) refl
       by (inr (q, ne)) = rw (further k ne) refl
 
-  pub rows_all : row ≡ 1024 → ((k : ℕ) → 1024 ≤ k → b k ≡ false) → (k : ℕ) → f k ≡ cond (b k) none (g k)
-  rows_all all past k = so_far k ∙ by (leb_tells 1024 k)
-    where
-      by : ((leb 1024 k ≡ true) × (1024 ≤ k)) ⊎ ((leb 1024 k ≡ false) × (k < 1024)) → cond (ltb k row && b k) none (g k) ≡ cond (b k) none (g k)
-      by (inl (q, le)) = rw (past k le, and_false (ltb k row)) refl
-      by (inr (q, lt)) = let t : ltb k row ≡ true = grind (arith, nat_tests) in rw t refl
-
 -- the sets of a pool removed from the rows before one
 abbrev pub Through : CountingDevice → ℕ → ℕ → CountingDevice → Type 0
 Through d p row e =
@@ -132,18 +124,6 @@ module _ (d : CountingDevice) (p row : ℕ) (e : CountingDevice) (so_far : Throu
     row_kept None (slot_at e.holdings.sets) (slot_at d.holdings.sets) (in_pool_at d p) row so_far.2 (sym asked ∙ sym left),
     λ k m. row_kept None (λ k. stored e.records k m) (λ k. stored d.records k m) (in_pool_at d p) row (λ k. so_far.3 k m) (sym asked ∙ sym left) k,
   )
-
-  none_past : (k : ℕ) → 1024 ≤ k → in_pool_at d p k ≡ false
-  none_past k le = ap (is_of_pool p) (get_or_past d.holdings.sets.rows k None (omega (arith, d.holdings.sets.whole)))
-
-  pub through_all : row ≡ 1024 → AllRemoved d p e
-  through_all all =
-      record {
-        rest = so_far.0;
-        mark = so_far.1;
-        sets = rows_all None (slot_at e.holdings.sets) (slot_at d.holdings.sets) (in_pool_at d p) row so_far.2 all none_past;
-        elements = λ k m. rows_all None (λ k. stored e.records k m) (λ k. stored d.records k m) (in_pool_at d p) row (λ k. so_far.3 k m) all none_past k;
-      }
 
 -- a set removed, by its handle
 pub freed_sets : (d : CountingDevice) (i h : ℕ) (e : CountingDevice) → row_of d.holdings.sets h ≡ Some i → Removed d i e → sets_of e.holdings e.records ≡ update eqb (sets_of d.holdings d.records) h None
