@@ -1,7 +1,7 @@
-use Rattle.std.proofs.Common.{◌≡◌, ℕ, ◌++◌, [], ◌∷◌, List, min, take, length, sym, ap, ◌∙◌, inl, inr, arith}
-use Rattle.std.proofs.lemmas.List.{map_more, length-take-le, take_all}
+use Rattle.std.proofs.Common.{◌≡◌, ℕ, List, min, take, length, sym, ap, ◌∙◌, inl, inr, arith}
+use Rattle.std.proofs.lemmas.List.{take_all}
 use Rattle.std.proofs.lemmas.Bool.Decides.{leb_tells}
-use Rattle.conversion.specs.Layouts.{device_binding, device_bindings, no_entry}
+use Rattle.conversion.specs.Layouts.{device_bindings}
 use Rattle.conversion.proofs.bindings.device_bindings.Goals as goal
 
 -- a list that is cut at the shorter of its length and n is cut at n
@@ -11,23 +11,6 @@ cut xs n i e =
       | inl h ↦ let l = h.1 in take_all i xs (omega arith) ∙ sym (take_all n xs l)
       | inr h ↦ let l = h.1 in let q : i ≡ n = omega arith in ap (λ k. take k xs) q
     ]
-
-pub push-requires : goal.push-requires
-push-requires c =
-    let l : length (take c.min.result c.args.entries.now) ≡ c.min.result = length-take-le c.min.result c.args.entries.now (omega arith) in
-    (omega arith, omega (arith, c.loop-entry.invariant.count))
-
-pub loop-entry-preserved : goal.loop-entry-preserved
-loop-entry-preserved c =
-    let listed = take c.min.result c.args.entries.now in
-    record {
-      told =
-          c.push.ensures.items
-          ∙ (ap (λ xs. xs ++ c.device_binding.result ∷ []) c.loop-entry.invariant.told
-          ∙ (ap (λ b. device_bindings c.args.partially_bound (take c.loop-entry.entry-index listed) ++ b ∷ []) c.device_binding.ensures
-          ∙ sym (map_more (device_binding c.args.partially_bound) listed c.loop-entry.entry-index no_entry c.loop-entry-test.true)));
-      count = omega (arith, c.push.ensures.len, c.loop-entry.invariant.count);
-    }
 
 pub returns : goal.returns
 returns c =
