@@ -2,3 +2,4 @@ pub mod Numbers
 pub mod Searches
 pub mod Sums
 pub mod Judging
+pub mod Rows

@@ -1,5 +1,5 @@
 -- What a list of entries counts, what the device is told of it, and why it makes no layout. Assumes nothing.
-use Rattle.std.specs.Prelude.{◌≡◌, ℕ, suc, ◌+◌, ◌-◌, ◌^◌, ◌<◌, ◌≤◌, Bool, true, false, cond, not, ◌&&◌, List, map, length, take, Some, None, Ok, Err, sum_by, Option, Result, MatchResult, ◌==◌, nat_le, nat_lt, slice_index_or}
+use Rattle.std.specs.Prelude.{◌≡◌, ℕ, suc, ◌+◌, ◌-◌, ◌^◌, ◌<◌, ◌≤◌, Bool, true, false, cond, not, ◌&&◌, List, ◌++◌, map, length, take, replicate, Some, None, Ok, Err, sum_by, Option, Result, MatchResult, ◌==◌, nat_le, nat_lt, slice_index_or}
 use Rattle.std.specs.List.{list_any}
 use Rattle.std.specs.Option.{option_or, option_map, unwrap_or}
 use Rattle.conversion.specs.Lists.{first}
@@ -65,6 +65,14 @@ device_binding partial e = record { descriptor_type = unwrap_or (type_of e.kind)
 -- all of them
 abbrev pub device_bindings : Bool → List LayoutEntry → List DeviceBinding
 device_bindings partial es = map (device_binding partial) es
+
+-- what stands in a row without a binding
+abbrev pub no_binding : DeviceBinding
+no_binding = record { descriptor_type = 0; count = 0; stages = 0; flags = 0 }
+
+-- 32 rows: a binding for each entry, as far as they go, and nothing in the others
+abbrev pub binding_rows : Bool → List LayoutEntry → List DeviceBinding
+binding_rows partial es = device_bindings partial (take 32 es) ++ replicate (32 - length es) no_binding
 
 -- the layout flag: with an array its sets are of pools for update after bind (2)
 abbrev pub layout_flags : BucketKey → ℕ

@@ -1,13 +1,12 @@
 // What the device is told of a layout.
-ghost use Rattle.std.specs.Prelude.{◌≡◌, take};
-ghost use Rattle.conversion.specs.Layouts.{binding_flags, device_binding, device_bindings, layout_flags, pool_flags};
+ghost use Rattle.std.specs.Prelude.{◌≡◌};
+ghost use Rattle.conversion.specs.Layouts.{binding_flags, device_binding, binding_rows, layout_flags, pool_flags};
 
 use crate::checks::MAX_ENTRIES;
 use crate::counts::BucketKey;
 use crate::entries::LayoutEntry;
 use crate::kinds::map_binding_type;
 use crate::stages::map_shader_stage;
-use arrayvec::ArrayVec;
 
 // VkDescriptorBindingFlagBits
 const BINDING_UPDATE_AFTER_BIND: u32 = 1;
@@ -81,17 +80,16 @@ pub fn pool_flags(key: &BucketKey) -> u32
     }
 }
 
-// Binding i of the device layout is entry i. Entries past those that a layout can have are left out.
+// Binding i of the device layout is entry i. Rows past the last entry hold zeros, and entries past the last row are left out.
 pub fn device_bindings(
     entries: &[LayoutEntry],
     partially_bound: bool,
-) -> ArrayVec<DeviceBinding, MAX_ENTRIES>
-    ensures { result.items ≡ device_bindings partially_bound (take 32 entries.now) }
+) -> [DeviceBinding; MAX_ENTRIES]
+    ensures { result ≡ binding_rows partially_bound entries.now }
 {
-    // a loop, since `collect` into an `ArrayVec` asks for an allocator and can fail
-    let mut bindings = ArrayVec::new();
-    for entry in &entries[..entries.len().min(MAX_ENTRIES)] {
-        bindings.push(entry.device_binding(partially_bound));
+    let mut rows = [DeviceBinding::default(); MAX_ENTRIES];
+    for (i, entry) in entries[..entries.len().min(MAX_ENTRIES)].iter().enumerate() {
+        rows[i] = entry.device_binding(partially_bound);
     }
-    bindings
+    rows
 }

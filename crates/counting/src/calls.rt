@@ -55,7 +55,7 @@ pub(crate) struct Place {
     pub(crate) handle: u64,
 }
 
-#[derive(Drop)]
+#[derive(Clone, Copy)]
 pub(crate) struct LayoutPlace {
     pub(crate) place: Place,
     pub(crate) bindings: Bindings,

@@ -2,7 +2,7 @@
 // Values of other crates are printed by functions: a type of this crate round each, for its `Display`, would be longer.
 use crate::sample::Sample;
 use conversion::bindings::{DeviceBinding, device_bindings, layout_flags, pool_flags};
-use conversion::checks::check_layout;
+use conversion::checks::{MAX_ENTRIES, check_layout};
 use conversion::counts::BucketKey;
 use conversion::faults::FaultReport;
 use conversion::kinds::{KINDS, Kind};
@@ -157,12 +157,13 @@ impl<'a> Rehearsal<'a> {
     fn try_layout(&mut self, layout: &Layout, key: &BucketKey) -> anyhow::Result<()> {
         let rt = self.rt;
         let count = layout.entries.len();
-        let bindings = device_bindings(&layout.entries, layout.partially_bound);
+        let rows = device_bindings(&layout.entries, layout.partially_bound);
+        let bindings = &rows[..count.min(MAX_ENTRIES)];
         let flags = layout_flags(key);
         println!(rt; "on the counting device, layout {}", layout.name)?;
         print!(rt; "  make layout of bindings {count}, flags {flags:#x}: ")?;
-        if let Some(handle) = print_answer(rt, self.device.create_layout(&bindings, flags))? {
-            self.try_pool(handle, &bindings, key)?;
+        if let Some(handle) = print_answer(rt, self.device.create_layout(bindings, flags))? {
+            self.try_pool(handle, bindings, key)?;
             self.device.destroy_layout(handle);
             println!(rt; "  destroy layout {handle}: no answer")?;
         }

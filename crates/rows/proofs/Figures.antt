@@ -1,9 +1,18 @@
 -- What rows add up to.
-use Rattle.std.proofs.Common.{◌≡◌, ℕ, ◌*◌, ◌≤◌, min, Bool, cond, List, length, get_or, filter, sum_by, sym, ap, ◌∙◌, arith}
+use Rattle.std.proofs.Common.{◌≡◌, ℕ, zero, suc, ◌*◌, ◌≤◌, min, Bool, cond, List, [], length, get_or, filter, replicate, sum_by, sym, refl, ap, ◌∙◌, arith}
 use Rattle.std.proofs.lemmas.List.{take_all}
 use Rattle.std.proofs.lemmas.List.Sums.{sum_by-le, length-filter}
 use Rattle.device.specs.Meaning.{sum_below}
 use Rattle.device.proofs.Below.{below_same, sum_by-take}
+use Rattle.rows.specs.declared.bindings.Bindings.{Bindings}
+use Rattle.rows.specs.Lists.{list_of}
+use Rattle.rows.specs.Holdings.{no_bindings}
+
+-- rows that are all without bindings
+pub no_list : (b : Bindings) (n j : ℕ) → list_of b ≡ [] → list_of (get_or (replicate n b) j no_bindings) ≡ []
+no_list b zero j e = refl
+no_list b (suc n) zero e = e
+no_list b (suc n) (suc j) e = no_list b n j e
 
 -- a sum over a list, by places
 pub sum_by-rows : {X : Type 0} (f : X → ℕ) (xs : List X) (d : X) (n : ℕ) → length xs ≡ n → sum_by f xs ≡ sum_below n (λ i. f (get_or xs i d))

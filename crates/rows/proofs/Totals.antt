@@ -20,8 +20,11 @@ kind_count-le k (b ∷ bs) =
 
 module _ (d : Holdings) where
   -- by what a row of bindings keeps
+  total_small : (j : ℕ) → total_of (bindings_at d j) < 2 ^ 37
+  total_small j = let b = get_or d.bindings j no_bindings in omega (arith, b.is, b.small)
+
   pub kind_small : (k : Kind) (j : ℕ) → kind_count k (bindings_at d j) < 2 ^ 37
-  kind_small k j = let b = get_or d.bindings j no_bindings in omega (arith, kind_count-le k (bindings_at d j), b.is, b.small)
+  kind_small k j = omega (arith, kind_count-le k (bindings_at d j), total_small j)
 
   -- what the set in a row has of a kind, if it lives in a pool
   abbrev pub used : ℕ → Kind → Option (Slot SetRow) → ℕ

@@ -1,6 +1,6 @@
 -- What the rows of a device hold, and what they add up to. Assumes nothing.
 use Rattle.std.specs.Prelude.{ℕ, ◌+◌, Bool, false, cond, not, ◌&&◌, ◌||◌, List, [], is_some, Some, None, Option, ◌==◌, nat_le, nat_lt, slice_index_or, refl}
-use Rattle.std.proofs.Math.Nat.{zero-lt-suc}
+use Rattle.std.proofs.Common.{zero-le, zero-lt-suc}
 use Rattle.std.specs.List.{list_any}
 use Rattle.std.specs.Option.{option_map, option_flatten}
 use Rattle.conversion.specs.Kinds.{kinds}
@@ -26,7 +26,7 @@ found_by row at h = option_flatten (option_map at (row h))
 
 -- past the last row of bindings there are none
 abbrev pub no_bindings : Bindings
-no_bindings = record { list = record { items = [] }; total = 0; is = refl; small = zero-lt-suc 137438953471 }
+no_bindings = record { rows = []; used = 0; total = 0; fits = zero-le; is = refl; small = zero-lt-suc 137438953471 }
 
 -- the bindings in a layout's row
 abbrev pub bindings_at : Holdings → ℕ → List DeviceBinding

@@ -1,5 +1,5 @@
 // What the rows add up to.
-ghost use Rattle.std.specs.Prelude.{◌≡◌, ℕ, ◌+◌, [], replicate, None, nat_lt};
+ghost use Rattle.std.specs.Prelude.{◌≡◌, ℕ, ◌+◌, ◌^◌, ◌<◌, [], replicate, None, nat_lt};
 ghost use Rattle.std.specs.List.{slice_get};
 ghost use Rattle.conversion.specs.Counts.{count_of, counts_by};
 ghost use Rattle.rows.specs.Bindings.{kind_count, total_of, start_of, at_most};
@@ -43,7 +43,7 @@ impl Holdings {
     {
         Holdings {
             layouts: Table::new(),
-            bindings: Default::default(),
+            bindings: [Bindings::default(); LAYOUT_ROWS],
             pools: Table::new(),
             sets: Table::new(),
         }
@@ -130,7 +130,8 @@ impl Holdings {
 impl Holdings {
     // How many descriptors the layout in a row has.
     pub fn total(&self, layout: usize) -> usize
-        ensures { result ≡ total_of (bindings_at self.now layout) }
+        ensures is { result ≡ total_of (bindings_at self.now layout) }
+        ensures small { result < 2 ^ 37 }
     {
         self.bindings
             .get(layout)
@@ -139,7 +140,8 @@ impl Holdings {
 
     // How many of them stand before binding i.
     pub fn start(&self, layout: usize, i: usize) -> usize
-        ensures { result ≡ start_of (bindings_at self.now layout) i }
+        ensures is { result ≡ start_of (bindings_at self.now layout) i }
+        ensures small { result < 2 ^ 37 }
     {
         self.bindings
             .get(layout)

@@ -40,4 +40,4 @@ returns c =
     let set = c.in-Some.set in
     let is = c.in-Some.ensures in
     let ok = c.if-not-is_valid.ensures ∙ ap (valid_for l w) c.binding-there.ensures in
-    record { holdings = refl; last = refl; size = c.fill.ensures.size; sets = sets_after d c.fill.new.segments w l set.row set.value is.0 is.1 ok (subst (λ at. Filled d.records set.row at w w.count l c.fill.new.segments) c.start-start.ensures c.fill.ensures); mark = unmarked d.mark (valid l w (sets_of d.holdings d.records)) (valid_is d d.records w l set.row set.value is.0 is.1 ∙ sym ok) }
+    record { holdings = refl; last = refl; size = c.fill.ensures.size; sets = sets_after d c.fill.new.segments w l set.row set.value is.0 is.1 ok (subst (λ at. Filled d.records set.row at w w.count l c.fill.new.segments) c.start-start.ensures.is c.fill.ensures); mark = unmarked d.mark (valid l w (sets_of d.holdings d.records)) (valid_is d d.records w l set.row set.value is.0 is.1 ∙ sym ok) }

@@ -39,8 +39,8 @@ invariant_of-self-3 c =
     record {
       layouts = given_later d.holdings.layouts d.holdings.layouts (omega (arith, next.0)) d.layouts;
       pools = given_change d.holdings.pools c.change.new.self p.row c.with_set.result c.change.ensures (given_later d.holdings.pools d.holdings.pools (omega (arith, next.0)) d.pools);
-      sets = placed_given d n place placed c.args.pool l.row c.put.new.self c.put.result c.put.ensures.answer c.put.ensures.rows c.make.new.self c.make.result c.make.ensures c.total-total.ensures;
-      sized = placed_sized d n place placed c.args.pool l.row c.put.new.self c.put.result c.put.ensures.answer c.put.ensures.rows c.make.new.self c.make.result c.make.ensures c.total-total.ensures;
+      sets = placed_given d n place placed c.args.pool l.row c.put.new.self c.put.result c.put.ensures.answer c.put.ensures.rows c.make.new.self c.make.result c.make.ensures c.total-total.ensures.is;
+      sized = placed_sized d n place placed c.args.pool l.row c.put.new.self c.put.result c.put.ensures.answer c.put.ensures.rows c.make.new.self c.make.result c.make.ensures c.total-total.ensures.is;
       word = next.1;
     }
 
@@ -56,7 +56,7 @@ returns c =
     let place = c.in_ok-place.place in
     let placed = c.in_ok-place.ensures in
     let answer = answer_fixed d d.word c.args.pool c.args.layout p.value p.row l.row l.value pools layouts fit (sym c.if-is_full.ensures) in
-    let given = answer ∙ (ap (fixed_set d) (sym c.total-total.ensures) ∙ placed.fixed) in
+    let given = answer ∙ (ap (fixed_set d) (sym c.total-total.ensures.is) ∙ placed.fixed) in
     let valid = valid_set d d.word c.args.pool c.args.layout p.value p.row l.row l.value pools layouts fit in
     let bindings = bindings_there d d.word c.args.pool c.args.layout p.value p.row l.row l.value pools layouts fit in
     record {
@@ -66,7 +66,7 @@ returns c =
             layouts = refl;
             pools = remembers d d.word c.args.pool c.args.layout p.value p.row l.row l.value pools layouts fit c.with_set.result c.counts-counts.result c.change.new.self (sym c.if-is_full.ensures) c.counts-counts.ensures c.with_set.ensures c.change.ensures;
             sets =
-                placed_sets d n place placed c.args.pool l.row c.put.new.self c.put.result c.put.ensures.answer c.put.ensures.rows c.make.new.self c.make.result c.make.ensures c.total-total.ensures
+                placed_sets d n place placed c.args.pool l.row c.put.new.self c.put.result c.put.ensures.answer c.put.ensures.rows c.make.new.self c.make.result c.make.ensures c.total-total.ensures.is
                 ∙ ap (λ bs. update eqb (sets_of d.holdings d.records) place.handle (Some (new_set c.args.pool bs))) (sym bindings);
             mark = or_none d.mark ∙ ap₂ (λ a b. d.mark || a || b) (sym valid) (sym (ap sets_mark given));
           };
@@ -86,7 +86,7 @@ returns-in_err-place c =
     let passed = err_from_is_err_and c.from_residual.result c.from_residual.ensures.1 in
     let answer =
     answer_fixed d d.word c.args.pool c.args.layout p.value p.row l.row l.value pools layouts fit (sym c.if-is_full.ensures)
-    ∙ ap (fixed_set d) (sym c.total-total.ensures) in
+    ∙ ap (fixed_set d) (sym c.total-total.ensures.is) in
     let valid = valid_set d d.word c.args.pool c.args.layout p.value p.row l.row l.value pools layouts fit in
     let obstacle = answered_err Set (fixed_set d n) fault c.in_err-place.ensures in
     let refused = answer ∙ obstacle in
