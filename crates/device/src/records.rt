@@ -60,7 +60,7 @@ pub struct Write {
 }
 
 // The lists that the writes of a call take their records from.
-#[derive(Clone, Copy)]
+#[derive(Clone, Copy, Debug, PartialEq, Eq)]
 pub struct Records<'a> {
     pub images: &'a [ImageRecord],
     pub buffers: &'a [BufferRecord],
