@@ -1,7 +1,8 @@
 // Layouts from standard input.
 #![tactic(auto)]
 
-ghost use Rattle.std.specs.Prelude.{◌≡◌};
+ghost use Rattle.std.specs.Prelude.{◌≡◌, ◌≤◌, IfOk};
+ghost use Rattle.std.specs.Process.{exit_status};
 ghost use Rattle.layouts.specs.declared.LineError.TheVariants.{Word, NoMemory};
 
 use anyhow::anyhow;
@@ -97,7 +98,7 @@ fn take_line(heap: Global, layouts: &mut Vec<Layout>, line: &str) -> Result<(), 
 }
 
 // All layouts, or an error once each line that can't be read was named.
-fn read_layouts(rt: &HostRuntime) -> anyhow::Result<Vec<Layout>> {
+pub fn read_layouts(rt: &HostRuntime) -> anyhow::Result<Vec<Layout>> {
     let heap = rt.alloc();
     let mut layouts: Vec<Layout> = Vec::new(heap);
     // A flag and no early return, so that each line that can't be read is named.
@@ -148,7 +149,7 @@ fn run<F: FnOnce(&HostRuntime, &[Layout]) -> anyhow::Result<()>>(
     work(rt, &layouts)
 }
 
-// Runs a program on the layouts that standard input has, or prints its usage.
+// Runs a program on the layouts that standard input has, or prints its usage. The status is 0 or 1.
 // An error is printed after the program's name.
 pub fn run_program<F: FnOnce(&HostRuntime, &[Layout]) -> anyhow::Result<()>>(
     rt: &HostRuntime,
@@ -157,6 +158,7 @@ pub fn run_program<F: FnOnce(&HostRuntime, &[Layout]) -> anyhow::Result<()>>(
     work: F,
 ) -> io::Result<ExitCode>
     requires { F.IsAlwaysCallable work }
+    ensures { IfOk result (λ code. exit_status code ≤ 1) }
 {
     match run(rt, usage, work) {
         Ok(()) => Ok(ExitCode::SUCCESS),
