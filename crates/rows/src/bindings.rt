@@ -40,6 +40,7 @@ impl Default for Bindings {
     }
 }
 
+// By hand, as `Default`, so that an edit can turn it.
 impl Clone for Bindings {
     ghost use Rattle.std.specs.Prelude.{⊤};
 

@@ -1,4 +1,5 @@
-use Rattle.std.proofs.Common.{◌≡◌, cond, is_some, Some, None, Option, filter, length, refl, ◌∙◌, rules, tests}
+use Rattle.std.proofs.Common.{◌≡◌, cond, is_some, Some, None, Option, filter, length, refl, ◌∙◌, rules, tests, arith, take}
+use Rattle.std.proofs.lemmas.List.{take_all}
 use Rattle.std.proofs.lemmas.Iterator.{YieldsList-from_slice}
 use Rattle.std.proofs.lemmas.Iterator.Consumers.{YieldsList-at, YieldsList-from_filter, count_from_yields_List}
 use Rattle.rows.specs.declared.slots.Slot.{Slot}
@@ -13,6 +14,7 @@ one (Some s) = refl
 pub returns : goal.returns
 returns g c =
     let t = c.args.self.now in
-    let road = YieldsList-at c.filter.ensures.source (YieldsList-from_slice t.rows (cc)) in
+    let whole : take g.row.N t.rows ≡ t.rows = take_all g.row.N t.rows (omega (arith, t.whole)) in
+    let road = YieldsList-at c.filter.ensures.source (YieldsList-from_slice t.rows (grind (arith, whole))) in
     let counted : c.count.result ≡ length (filter is_some t.rows) = count_from_yields_List c.filter.result c.count.result c.count.ensures.ran (YieldsList-from_filter _ is_some road c.filter.ensures.closure (λ x b q k. search (rules, tests))) in
     counted ∙ count-rows is_some one_if_used one t.rows None g.row.N t.whole
