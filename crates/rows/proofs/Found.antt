@@ -1,8 +1,8 @@
 -- What a table finds under a handle, as its rows change.
-use Rattle.std.proofs.Common.{◌≡◌, ℕ, zero, suc, ◌+◌, ◌<◌, Bool, true, false, cond, not, eqb, ltb, ◌⊎◌, List, [], ◌∷◌, ◌++◌, length, get_or, set, is_some, Some, None, Option, sym, refl, ap, ◌∙◌, subst, inl, inr, arith, length-set, get_or-set_other, get_or-set_same}
+use Rattle.std.proofs.Common.{◌≡◌, ℕ, zero, suc, ◌+◌, ◌<◌, Bool, true, false, cond, not, eqb, ltb, ◌⊎◌, List, [], ◌∷◌, ◌++◌, length, get_or, set, is_some, Some, None, Option, sym, refl, ap, ◌∙◌, subst, inl, inr, arith, length-set, get_or-set_other, get_or-set_same, take}
 use native.Mathlib.Decide.{dec_lt}
 use mathlib.Core.Path.{fun_ext}
-use Rattle.std.proofs.lemmas.List.{get_or_past}
+use Rattle.std.proofs.lemmas.List.{get_or_past, take_all}
 use Rattle.std.proofs.lemmas.List.Folds.{find-append}
 use Rattle.std.specs.List.{position_from, list_any, find, range_with_len}
 use Rattle.std.proofs.lemmas.Iterator.Adapters.{position_from-zero}
@@ -197,6 +197,10 @@ module _ {T : Type 0} where
   change_apart rows i x apart a b e =
       let s = shared_handle (changed rows i x a) (changed rows i x b) e in
       apart a b (is_shared s.0 (rows a) (rows b) (sym (change_handle rows i x s.0 a) ∙ s.1) (sym (change_handle rows i x s.0 b) ∙ s.2))
+
+-- all rows, as the first n
+pub all_rows : {T : Type 0} {n : ℕ} (t : Table T n) → take n t.rows ≡ t.rows
+all_rows {n = n} t = take_all n t.rows (omega (arith, t.whole))
 
 -- what a row that can be put tells
 module _ {T : Type 0} {n : ℕ} (t : Table T n) (i h : ℕ) (can : true ≡ can_put t i h) where
